@@ -1,0 +1,21 @@
+//! Values and texts: what every other crate is written with.
+//!
+//! Texts and lists that contracts see as plain lists ([`Text`], [`List`]), the traits that give
+//! derived clones and comparisons their meaning in clauses ([`Plain`], [`Exact`]), attribute values
+//! ([`Value`], [`Kind`]), checked expressions ([`Expr`]), and the loop that tells the first fault of
+//! a list ([`check_each`]).
+#![tactic(auto)]
+
+mod check;
+mod exact;
+mod expr;
+mod list;
+mod text;
+mod value;
+
+pub use check::{check_each, fault_if};
+pub use exact::{Exact, Plain};
+pub use expr::{Expr, Sign, SlotRead};
+pub use list::List;
+pub use text::Text;
+pub use value::{Kind, Value};
