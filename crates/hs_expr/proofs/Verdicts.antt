@@ -1,9 +1,8 @@
-use Rattle.std.proofs.Common.{ℕ, ◌+◌, ◌<◌, ◌≡◌, List, [], ◌∷◌, ◌++◌, take, drop, length, get_or, Result, Ok, Err, refl, rules, arith, ap, sym, ◌∙◌}
-use Rattle.std.proofs.lemmas.Grind.{common_steps}
+use Rattle.std.proofs.Common.{ℕ, ◌+◌, ◌<◌, ◌≡◌, List, [], ◌∷◌, ◌++◌, drop, length, get_or, Ok, Err, refl}
 use Rattle.std.proofs.lemmas.List.{drop_more}
-use Rattle.hs_expr.specs.Verdict.{verdict, each_from, each}
-use Rattle.std.proofs.Common.{slice_get, Some, ◌≤◌}
-use Rattle.std.proofs.lemmas.Option.{slice_get_read, get_or_from_slice_get, slice_get_within}
+use Rattle.hs_expr.specs.Verdict.{verdict, each_from}
+use Rattle.std.proofs.Common.{slice_get, Some}
+use Rattle.std.proofs.lemmas.Option.{get_or_from_slice_get, slice_get_within}
 
 -- faults of the first check come before those of the second
 pub verdict-append-ok : {E : Type 0} (a b : List E) → verdict a ≡ Ok tt → verdict (a ++ b) ≡ verdict b

@@ -1,4 +1,5 @@
 ghost use Rattle.std.specs.Prelude.{◌≡◌, ◌↔◌, IsTrue, true};
+ghost use Rattle.std.proofs.Common.{rules};
 
 /// A type whose clones are the value itself.
 pub trait Plain: Clone {
@@ -15,4 +16,20 @@ pub trait Exact: PartialEq {
     {
         self.eq(other)
     }
+}
+
+impl Plain for u16 {
+    ghost copies = { Prim.search rules };
+}
+
+impl Exact for u16 {
+    ghost equals = { Prim.search rules };
+}
+
+impl Plain for u32 {
+    ghost copies = { Prim.search rules };
+}
+
+impl Exact for u32 {
+    ghost equals = { Prim.search rules };
 }

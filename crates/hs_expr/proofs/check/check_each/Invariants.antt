@@ -1,4 +1,4 @@
-use Rattle.std.proofs.Common.{◌≡◌, ℕ, List, drop, Bor, Result, slice_get, Some}
+use Rattle.std.proofs.Common.{◌≡◌, ℕ, List, drop, Bor, slice_get, Some}
 use Rattle.hs_expr.specs.Verdict.{verdict, each_from, each}
 use Rattle.hs_expr.specs.contracts.check.check_each.F-Fn.{words}
 use Rattle.hs_expr.proofs.check.check_each.Given as goal
