@@ -1,0 +1,10 @@
+use Rattle.std.proofs.Common.{◌≡◌, ◌∙◌, ap, List}
+use Rattle.hs_types.specs.declared.graph.Edge.{Edge}
+use Rattle.henshin.specs.ReportText.{edges_from, name_in}
+use Rattle.henshin.proofs.Lists.{named}
+use Rattle.henshin.proofs.graph_line.line_value.Goals as goal
+
+pub returns : goal.returns
+returns c = λ g objects outgoing.
+    let edges : c.edges_from-edges.result.now ≡ edges_from g c.args.object.now.number = c.edges_from-edges.ensures ∙ outgoing c.args.object.now.number in
+    rw (← edges) (c.object_value.ensures (name_in g) (λ n. named _ _ (objects n)))

@@ -1,0 +1,11 @@
+use Rattle.std.proofs.Common.{◌≡◌, map, drop}
+use Rattle.serde_json.specs.Data.{no_members}
+use Rattle.serde_json.specs.View.{members_view}
+use Rattle.henshin.specs.ReportText.{with_members, arg_data}
+use Rattle.henshin.proofs.lines.args_value.Given as goal
+
+-- the members so far, with those of the arguments that are left, are those of all
+abbrev pub invariant-loop-named : goal.invariant-loop-named
+invariant-loop-named l =
+    with_members (members_view l.members.entries) (map (λ a. (a.name, arg_data a.arg)) (drop l.named-index l.named-items))
+    ≡ with_members no_members (map (λ a. (a.name, arg_data a.arg)) l.named-items)

@@ -1,0 +1,45 @@
+use hs_json::BundleFault;
+use std::alloc::{AllocError, AllocFailed};
+
+/// Why a bundle was not run.
+#[derive(Clone, Copy, PartialEq, Eq, Debug)]
+pub enum Refusal {
+    NotBuilt,
+    NoMemory,
+}
+
+impl From<AllocError> for Refusal {
+    ghost use Rattle.std.specs.Prelude.{◌≡◌};
+    ghost use Rattle.henshin.specs.declared.fault.Refusal.TheVariants.{NoMemory};
+
+    ghost from_gives = { λ _ e. e ≡ NoMemory };
+
+    fn from(_error: AllocError) -> Refusal {
+        Refusal::NoMemory
+    }
+}
+
+impl<T: Drop> From<AllocFailed<T>> for Refusal {
+    ghost use Rattle.std.specs.Prelude.{◌≡◌};
+    ghost use Rattle.henshin.specs.declared.fault.Refusal.TheVariants.{NoMemory};
+
+    ghost from_gives = { λ _ e. e ≡ NoMemory };
+
+    fn from(_error: AllocFailed<T>) -> Refusal {
+        Refusal::NoMemory
+    }
+}
+
+impl From<BundleFault> for Refusal {
+    fn from(fault: BundleFault) -> Refusal {
+        match fault {
+            BundleFault::NotBuilt => Refusal::NotBuilt,
+            BundleFault::NoMemory => Refusal::NoMemory,
+        }
+    }
+}
+
+/// Goes on where the test holds.
+pub fn demand(test: bool) -> Result<(), Refusal> {
+    if test { Ok(()) } else { Err(Refusal::NotBuilt) }
+}
