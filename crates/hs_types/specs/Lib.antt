@@ -1,0 +1,16 @@
+pub mod Lists
+pub mod Metamodel
+pub mod TypedGraph
+pub mod Pattern
+pub mod MatchOrder
+pub mod Arguments
+pub mod PlainMatch
+pub mod Dangling
+pub mod Conditions
+pub mod Copies
+pub mod ValidMatch
+pub mod Plan
+pub mod Step
+pub mod Journal
+pub mod RuleForm
+pub mod Spares

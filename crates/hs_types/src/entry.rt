@@ -69,3 +69,20 @@ pub struct Gone {
     pub class: ClassNo,
     pub slots: List<Slot>,
 }
+
+/// Why an entry isn't lawful, in the order in which it is asked.
+#[derive(Clone, Copy, PartialEq, Eq, Debug)]
+pub enum Cause {
+    /// Its place, session, request or an attempt's number isn't the next.
+    Number,
+    /// There is no such rule, or the arguments don't fit it.
+    Rule,
+    /// It says applied, and the match that it names isn't valid.
+    Match,
+    /// It says missed, and some match is valid.
+    Valid,
+    /// The new names aren't the next, or too many objects or edges would be drawn.
+    New,
+    /// The values or the deleted objects aren't those before.
+    Old,
+}

@@ -16,7 +16,7 @@ mod request;
 mod rule;
 mod unit;
 
-pub use entry::{Entry, ExtensionNames, Gone, MatchNames, Outcome, Tried, What};
+pub use entry::{Cause, Entry, ExtensionNames, Gone, MatchNames, Outcome, Tried, What};
 pub use graph::{Edge, EdgeNo, Graph, ListGraph, Object, ObjectNo, Slot};
 pub use matching::{Extension, Match};
 pub use meta::{Class, ClassNo, DataType, Feature, FeatureKind, FeatureNo, Meta};

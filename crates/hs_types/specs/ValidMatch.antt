@@ -1,0 +1,46 @@
+-- Valid matches, and the least of them.
+use Rattle.std.specs.Prelude.{ℕ, List, ◌++◌, Option, MatchOption}
+use Rattle.std.specs.List.{All, AllZip, flat_map}
+use Rattle.hs_types.specs.declared.graph.Graph.{Graph}
+use Rattle.hs_types.specs.declared.matching.Match.{Match}
+use Rattle.hs_types.specs.declared.meta.Meta.{Meta}
+use Rattle.hs_types.specs.declared.request.Args.{Args}
+use Rattle.hs_types.specs.declared.rule.Rule.{Rule}
+use Rattle.hs_types.specs.Arguments.{Follows}
+use Rattle.hs_types.specs.Conditions.{env_of, AreTrue, AreFit, IsAbsent, IsPresent}
+use Rattle.hs_types.specs.Copies.{AreCopies, NoneTouch, copies_of}
+use Rattle.hs_types.specs.Dangling.{dropped_nodes, dropped_edges, NoneDangle}
+use Rattle.hs_types.specs.MatchOrder.{IsEarlier}
+use Rattle.hs_types.specs.Pattern.{left_nodes}
+use Rattle.hs_types.specs.PlainMatch.{IsPlain, kernel_of}
+
+-- The objects, and the edges, that a match drops: the kernel's first, then copy by copy, in written order.
+abbrev pub all_dropped_nodes : Rule → Match → List ℕ
+all_dropped_nodes rule f = dropped_nodes rule.shape (kernel_of f) ++ flat_map (λ copy. dropped_nodes copy.multi.shape copy.found) (copies_of rule f)
+
+abbrev pub all_dropped_edges : Rule → Match → List ℕ
+all_dropped_edges rule f = dropped_edges rule.shape (kernel_of f) ++ flat_map (λ copy. dropped_edges copy.multi.shape copy.found) (copies_of rule f)
+
+-- The rule can be applied here.
+pub record IsValid (m : Meta) (g : Graph) (rule : Rule) (args : Args) (f : Match) : Type 0 where
+  pub plain : IsPlain m g rule.shape (kernel_of f)
+  pub follows : AllZip (Follows g args) (left_nodes rule.shape.nodes) f.nodes
+  pub none_dangle : NoneDangle (all_dropped_nodes rule f) (all_dropped_edges rule f) g
+  pub wheres : AreTrue (env_of g rule args rule.shape.nodes f.nodes) rule.wheres
+  pub sets_fit : AreFit m (env_of g rule args rule.shape.nodes f.nodes) rule.sets
+  pub forbids : All (IsAbsent m g rule (kernel_of f)) rule.forbids
+  pub needs : All (IsPresent m g rule (kernel_of f)) rule.needs
+  pub copies : AllZip (AreCopies m g rule args (kernel_of f)) rule.multis f.copies
+  pub none_touch : NoneTouch rule f
+
+abbrev pub NoneIsValid : Meta → Graph → Rule → Args → Type 0
+NoneIsValid m g rule args = (f : Match) → IsValid m g rule args f → ⊥
+
+-- It is valid, and no valid match is earlier.
+pub record IsLeast (m : Meta) (g : Graph) (rule : Rule) (args : Args) (f : Match) : Type 0 where
+  pub valid : IsValid m g rule args f
+  pub least : (h : Match) → IsValid m g rule args h → IsEarlier (kernel_of h) (kernel_of f) → ⊥
+
+-- What a search for the rule answers: the least valid match, or nothing where none is valid.
+abbrev pub IsFirst : Meta → Graph → Rule → Args → Option Match → Type 0
+IsFirst m g rule args answer = MatchOption answer (NoneIsValid m g rule args) (IsLeast m g rule args)
