@@ -1,0 +1,3 @@
+pub mod Candidates
+pub mod Conformance
+pub mod Extending
