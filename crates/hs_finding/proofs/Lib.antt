@@ -1,3 +1,4 @@
 pub mod Conforming
 pub mod Lists
 pub mod Ordered
+pub mod Scans

@@ -29,12 +29,12 @@ find_place number [] n a h = cc
 find_place {A} number (x ∷ xs) n a h =
     elim (eqb_tells (number x) n) [
       | inl here ↦
-        let found : Some x ≡ Some a = rw here.0 at h in
-        let e : x ≡ a = cc in
-        (zero, found, rw (← e) here.1)
+          let found : Some x ≡ Some a = rw here.0 at h in
+          let e : x ≡ a = cc in
+          (zero, found, rw (← e) here.1)
       | inr other ↦
-        let rest = find_place number xs n a (rw other.0 at h) in
-        (suc rest.0, rest.1, rest.2)
+          let rest = find_place number xs n a (rw other.0 at h) in
+          (suc rest.0, rest.1, rest.2)
     ]
 
 -- nothing is found by a number that nothing has
@@ -48,8 +48,8 @@ Ascend-partitioned {A} number xs from up i j d le lt below =
     let b : number (get_or xs j d) < from = ltb-true _ _ below in
     elim (cases_lt i j) [
       | inl less ↦
-        let rise : number (get_or xs i d) < number (get_or xs j d) = up i j _ _ (slice_get-get_or xs i d (omega arith)) (slice_get-get_or xs j d lt) less in
-        lt-ltb (number (get_or xs i d)) from (omega arith)
+          let rise : number (get_or xs i d) < number (get_or xs j d) = up i j _ _ (slice_get-get_or xs i d (omega arith)) (slice_get-get_or xs j d lt) less in
+          lt-ltb (number (get_or xs i d)) from (omega arith)
       | inr ge ↦ let same : i ≡ j = omega arith in rw same below
     ]
 

@@ -1,8 +1,10 @@
 use Rattle.std.specs.Prelude.{ℕ, ◌<◌, ◌≤◌, ◌≡◌, List, false, Option, Some, slice_get, MatchOption}
 use Rattle.hs_types.specs.declared.graph.Edge.{Edge}
 use Rattle.hs_types.specs.declared.graph.Graph.{Graph}
+use Rattle.hs_types.specs.declared.graph.Object.{Object}
 use Rattle.hs_types.specs.declared.meta.Meta.{Meta}
 use Rattle.hs_types.specs.Lists.{has}
+use Rattle.hs_types.specs.Metamodel.{Conforms}
 use Rattle.hs_types.specs.TypedGraph.{edge_at, IsOf}
 
 -- Of the numbers from `from` on that the fact holds of, x is the least.
@@ -28,7 +30,19 @@ pub record IsFree (m : Meta) (g : Graph) (class : ℕ) (taken : List ℕ) (n : �
   pub of_class : IsOf m g class n
   pub free : has taken n ≡ false
 
+-- The object is of the class, and isn't taken.
+pub record MayBe (m : Meta) (class : ℕ) (taken : List ℕ) (object : Object) : Type 0 where
+  pub of_class : Conforms m object.class class
+  pub free : has taken object.number ≡ false
+
 -- Edge n is of the reference and joins these two, and it isn't taken.
 pub record IsFreeEdge (g : Graph) (source reference target : ℕ) (taken : List ℕ) (n : ℕ) : Type 0 where
   pub joins : edge_at g n ≡ Some (record { number = n; source = source; reference = reference; target = target })
   pub free : has taken n ≡ false
+
+-- The edge is of the reference and joins these two, and it isn't taken.
+pub record MayJoin (source reference target : ℕ) (taken : List ℕ) (edge : Edge) : Type 0 where
+  pub source_same : edge.source ≡ source
+  pub reference_same : edge.reference ≡ reference
+  pub target_same : edge.target ≡ target
+  pub free : has taken edge.number ≡ false
