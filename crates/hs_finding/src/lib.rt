@@ -4,6 +4,7 @@
 mod candidates;
 mod conformance;
 mod lookup;
+mod pattern;
 
 pub use conformance::conforms;
 pub use lookup::find_object;
