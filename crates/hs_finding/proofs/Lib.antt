@@ -1,4 +1,5 @@
 pub mod Conforming
+pub mod Images
 pub mod Lists
 pub mod Ordered
 pub mod Scans

@@ -66,7 +66,7 @@ behind_place number xs from place p i a at le =
     let above = p.1 i a le (slice_get_within xs i a at) in
     ltb-false (number a) from (rw (get_or_from_slice_get xs i a a at) at above)
 
-none_past : {A : Type 0} (xs : List A) (i : ℕ) → slice_get xs i ≡ None → length xs ≤ i
+pub none_past : {A : Type 0} (xs : List A) (i : ℕ) → slice_get xs i ≡ None → length xs ≤ i
 none_past xs i h = elim (slice_get_cases xs i).1 [ inl there ↦ let e = there.2 in cc | inr past ↦ past.0 ]
 
 -- the item at the place of a number, or none with the number

@@ -62,7 +62,7 @@ none_left number Passes P xs from i before end stands = λ y ge p.
     let within : s.place < length xs = slice_get_within xs s.place s.item s.at in
     before s.place s.item s.at (omega arith) (rw s.same ge) s.passes
 
-some_and : {A : Type 0} (o : Option A) (P : A → Type 0) → IsSomeAnd o P → (a : A) × (o ≡ Some a) × P a
+pub some_and : {A : Type 0} (o : Option A) (P : A → Type 0) → IsSomeAnd o P → (a : A) × (o ≡ Some a) × P a
 some_and None P h = absurd h
 some_and (Some a) P h = (a, refl, h)
 

@@ -2,9 +2,12 @@
 #![tactic(auto)]
 
 mod candidates;
+mod choice;
 mod conformance;
+mod extending;
 mod lookup;
 mod pattern;
 
 pub use conformance::conforms;
+pub use extending::Extending;
 pub use lookup::find_object;
