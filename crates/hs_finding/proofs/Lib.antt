@@ -3,3 +3,4 @@ pub mod Images
 pub mod Lists
 pub mod Ordered
 pub mod Scans
+pub mod Valid

@@ -2,4 +2,6 @@ pub mod Candidates
 pub mod Conformance
 pub mod Distinct
 pub mod Extending
+pub mod FirstMatch
+pub mod Kernel
 pub mod View

@@ -6,8 +6,10 @@ mod choice;
 mod conformance;
 mod extending;
 mod lookup;
+mod matching;
 mod pattern;
 
 pub use conformance::conforms;
 pub use extending::Extending;
 pub use lookup::find_object;
+pub use matching::first_match;
