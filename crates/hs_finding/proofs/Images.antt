@@ -17,8 +17,10 @@ use Rattle.hs_types.specs.Pattern.{left_nodes, left_edges}
 use Rattle.hs_types.specs.PlainMatch.{image, IsImage, Extends}
 use Rattle.hs_types.specs.TypedGraph.{IsOf}
 use Rattle.hs_finding.specs.Candidates.{IsFree, IsNext}
+use Rattle.hs_finding.specs.declared.link.Link.{Link}
+use Rattle.hs_finding.specs.Linked.{IsLinked}
 use Rattle.hs_finding.proofs.Scans.{some_and}
-use Rattle.hs_finding.specs.Extending.{Sought, split, AreImages, EdgeFits, Fits, FitsAs}
+use Rattle.hs_finding.specs.Extending.{Sought, split, AreImages, EdgeFits, Fits, FitsAs, NoObject}
 
 -- what comes after has none of the numbers before it
 pub Differ-at : (us : List ℕ) (y : ℕ) (vs : List ℕ) → Differ (us ++ y ∷ vs) → has us y ≡ false
@@ -168,6 +170,33 @@ edge_in_choice s size front y rest edge le at c =
 pub edge_in_choice_at : (s : Sought) (size n : ℕ) (front : List ℕ) (y : ℕ) (rest : List ℕ) (edge : PatternEdge) → n ≡ length (left_nodes s.nodes) → length (left_nodes s.nodes) ≤ length front →
     slice_get (left_edges s.edges) (length front - n) ≡ Some edge → IsChoice size (AreImages s) ((front ++ y ∷ []) ++ rest) → EdgeFits s (take n front) (drop n front) edge y
 edge_in_choice_at s size n front y rest edge e le at c = rw e (edge_in_choice s size front y rest edge le (rw e at at) c)
+
+-- where no object fits and goes on, no choice does
+pub object_passed : (s : Sought) (size : ℕ) (front : List ℕ) (node : PatternNode) (from : ℕ) (o : Option ℕ) → slice_get (left_nodes s.nodes) (length front) ≡ Some node →
+    IfSome o (λ x. (y : ℕ) → from ≤ y → y < x → NoObject s node.class front y) →
+    IfSome o (λ x. (y : ℕ) → from ≤ y → y < x → (rest : List ℕ) → IsChoice size (AreImages s) ((front ++ y ∷ []) ++ rest) → ⊥)
+object_passed s size front node from (Some x) at none = λ y ge lt rest c. none y ge lt rest (node_in_choice s size front y rest node at c) (rw append_assoc at c.good)
+object_passed s size front node from None at none = tt
+
+pub object_none : (s : Sought) (size : ℕ) (front : List ℕ) (node : PatternNode) (from : ℕ) (o : Option ℕ) → slice_get (left_nodes s.nodes) (length front) ≡ Some node →
+    IfNone o ((y : ℕ) → from ≤ y → NoObject s node.class front y) →
+    IfNone o ((y : ℕ) → from ≤ y → (rest : List ℕ) → IsChoice size (AreImages s) ((front ++ y ∷ []) ++ rest) → ⊥)
+object_none s size front node from (Some x) at none = tt
+object_none s size front node from None at none = λ y ge rest c. none y ge rest (node_in_choice s size front y rest node at c) (rw append_assoc at c.good)
+
+-- what the image of an edge says, the images of the whole say
+pub link_whole : (s : Sought) (front : List ℕ) (place : ℕ) (edge : PatternEdge) (o : Option Link) → slice_get (left_edges s.edges) place ≡ Some edge → length front < length (left_nodes s.nodes) →
+    IfSome o (λ link. (y : ℕ) (rest : List ℕ) (n : ℕ) → IsImage s.graph (image (s.base_nodes ++ s.nodes) (s.base.nodes ++ (front ++ y ∷ rest))) edge n → IsLinked s.graph link y) →
+    IfSome o (λ link. (y : ℕ) (rest : List ℕ) → AreImages s (front ++ y ∷ rest) → IsLinked s.graph link y)
+link_whole s front place edge None at short says = tt
+link_whole s front place edge (Some link) at short says = λ y rest images.
+    let n : ℕ = length (left_nodes s.nodes) in
+    let m : ℕ = n - length front - 1 in
+    let cut : take n (front ++ y ∷ rest) ≡ front ++ y ∷ take m rest = take_behind front y rest n m (omega arith) in
+    let fits : AllZip (IsImage s.graph (image (s.base_nodes ++ s.nodes) (s.base.nodes ++ (front ++ y ∷ take m rest)))) (left_edges s.edges) (drop n (front ++ y ∷ rest)) = rw cut at images.edges_fit in
+    let found = some_and (slice_get (drop n (front ++ y ∷ rest)) place) (IsImage s.graph (image (s.base_nodes ++ s.nodes) (s.base.nodes ++ (front ++ y ∷ take m rest))) edge)
+    (rw at at (AllZip-left _ (left_edges s.edges) (drop n (front ++ y ∷ rest)) fits place)) in
+    says y (take m rest) found.0 found.2
 
 -- what a next number passes over
 pub next_passed : (P : ℕ → Type 0) (C : ℕ → List ℕ → Type 0) (from : ℕ) (o : Option ℕ) → IsNext P from o → ((y : ℕ) (rest : List ℕ) → C y rest → P y) →

@@ -1,5 +1,6 @@
 pub mod Conforming
 pub mod Images
+pub mod Links
 pub mod Lists
 pub mod Ordered
 pub mod Scans

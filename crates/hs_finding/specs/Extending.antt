@@ -45,3 +45,7 @@ FitsAs s front n None =
 
 abbrev pub Fits : Sought → List ℕ → ℕ → Type 0
 Fits s front n = FitsAs s front n (slice_get (left_nodes s.nodes) (length front))
+
+-- The object n is no free one of the class, or no images of the whole go on with it.
+abbrev pub NoObject : Sought → ℕ → List ℕ → ℕ → Type 0
+NoObject s class front n = (rest : List ℕ) → IsFree s.meta s.graph class (s.base.nodes ++ front) n → AreImages s (front ++ n ∷ rest) → ⊥

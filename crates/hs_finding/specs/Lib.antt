@@ -4,4 +4,5 @@ pub mod Distinct
 pub mod Extending
 pub mod FirstMatch
 pub mod Kernel
+pub mod Linked
 pub mod View

@@ -50,7 +50,7 @@ fn is_new(base: &[u32], taken: &[u32], number: u32) -> bool
 }
 
 /// Whether this is a free object of the class.
-fn is_free(
+pub fn is_free(
     meta: &Meta,
     graph: &Graph,
     class: ClassNo,

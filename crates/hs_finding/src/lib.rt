@@ -5,6 +5,7 @@ mod candidates;
 mod choice;
 mod conformance;
 mod extending;
+mod link;
 mod lookup;
 mod matching;
 mod pattern;
