@@ -5,6 +5,7 @@ mod candidates;
 mod choice;
 mod conformance;
 mod extending;
+mod form;
 mod link;
 mod lookup;
 mod matching;
@@ -12,5 +13,6 @@ mod pattern;
 
 pub use conformance::conforms;
 pub use extending::Extending;
+pub use form::{is_in_order, is_small, only_adds};
 pub use lookup::find_object;
 pub use matching::first_match;

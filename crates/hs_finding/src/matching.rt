@@ -1,10 +1,9 @@
-ghost use Rattle.std.specs.Prelude.{◌≡◌, ◌≤◌, ◌+◌, [], map, take, drop, length, IfOk, IfSome, IfNone};
+ghost use Rattle.std.specs.Prelude.{◌≡◌, ◌≤◌, ◌+◌, [], take, drop, length, IfOk, IfSome, IfNone};
 ghost use Rattle.hs_search.specs.Choice.{IsChoice, IsLeast, IsNone};
-ghost use Rattle.hs_types.specs.Lists.{Rise};
 ghost use Rattle.hs_types.specs.Pattern.{left_nodes, left_edges};
 ghost use Rattle.hs_types.specs.ValidMatch.{IsFirst};
 ghost use Rattle.hs_finding.specs.Extending.{AreImages};
-ghost use Rattle.hs_finding.specs.FirstMatch.{OnlyAdds, no_args};
+ghost use Rattle.hs_finding.specs.FirstMatch.{InOrder, IsSmall, OnlyAdds, no_args};
 ghost use Rattle.hs_finding.specs.Kernel.{kernel};
 
 use crate::Extending;
@@ -21,9 +20,8 @@ pub fn first_match(
     graph: &Graph,
     rule: &Rule,
 ) -> Result<Option<Match>, AllocError>
-    requires objects_rise { Rise 0 (map (λ object. object.number) graph.now.objects) graph.now.next_object }
-    requires edges_rise { Rise 0 (map (λ edge. edge.number) graph.now.edges) graph.now.next_edge }
-    requires few { length (left_nodes rule.now.shape.nodes) + length (left_edges rule.now.shape.edges) ≤ 28 }
+    requires in_order { InOrder graph.now }
+    requires small { IsSmall rule.now.shape }
     requires only_adds { OnlyAdds rule.now }
     ensures { IfOk result (IsFirst meta.now graph.now rule.now no_args) }
 {
@@ -35,9 +33,8 @@ pub fn first_match(
 
 /// The images of the least plain match of a shape.
 fn first_images(meta: &Meta, graph: &Graph, shape: &Shape) -> Option<Numbers>
-    requires objects_rise { Rise 0 (map (λ object. object.number) graph.now.objects) graph.now.next_object }
-    requires edges_rise { Rise 0 (map (λ edge. edge.number) graph.now.edges) graph.now.next_edge }
-    requires few { length (left_nodes shape.now.nodes) + length (left_edges shape.now.edges) ≤ 28 }
+    requires in_order { InOrder graph.now }
+    requires small { IsSmall shape.now }
     ensures least { IfSome result (λ found. IsLeast
         (IsChoice (length (left_nodes shape.now.nodes) + length (left_edges shape.now.edges)) (AreImages (kernel meta.now graph.now shape.now))) found.items) }
     ensures none { IfNone result (IsNone

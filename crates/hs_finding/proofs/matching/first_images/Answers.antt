@@ -6,8 +6,8 @@ use Rattle.hs_finding.proofs.matching.first_images.Goals as goal
 
 pub invariant_of-least : goal.invariant_of-least
 invariant_of-least c = record {
-  objects_ascend = Rise-Ascend (λ (object : Object). object.number) c.args.graph.now.objects 0 _ c.requires.objects_rise;
-  edges_ascend = Rise-Ascend (λ (edge : Edge). edge.number) c.args.graph.now.edges 0 _ c.requires.edges_rise;
+  objects_ascend = Rise-Ascend (λ (object : Object). object.number) c.args.graph.now.objects 0 _ c.requires.in_order.objects;
+  edges_ascend = Rise-Ascend (λ (edge : Edge). edge.number) c.args.graph.now.edges 0 _ c.requires.in_order.edges;
   nodes_counted = search rules;
   edges_counted = search rules;
   few = search rules;
