@@ -1,0 +1,7 @@
+pub mod Conforming
+pub mod Images
+pub mod Links
+pub mod Lists
+pub mod Ordered
+pub mod Scans
+pub mod Valid

@@ -1,0 +1,138 @@
+use Rattle.std.proofs.Common.{ℕ, zero, suc, ◌+◌, ◌<◌, ◌≤◌, ◌≡◌, ◌⊎◌, List, [], ◌∷◌, ◌++◌, length, take, drop, map, slice_get, get_or, Option, Some, None, Bool, true, false, cond, refl, arith, rules, ap, sym, ◌∙◌, inl, inr, length-append}
+use Rattle.std.specs.Prelude.{IfSome, IfNone, MatchOption}
+use Rattle.std.specs.List.{All, AllZip, filter, flat_map}
+use Rattle.std.proofs.lemmas.Grind.{common_steps}
+use Rattle.std.proofs.lemmas.List.{append-nil, take_at, drop_at, take-append-drop, length-take-le}
+use Rattle.std.proofs.lemmas.List.Elements.{All-nil, All-head, All-tail, All-filter}
+use Rattle.std.proofs.lemmas.Slice.Zip.{AllZip-long}
+use Rattle.hs_search.specs.Choice.{IsBelow, IsChoice, IsLeast, IsNone}
+use Rattle.hs_types.specs.declared.graph.Graph.{Graph}
+use Rattle.hs_types.specs.declared.matching.Extension.{Extension}
+use Rattle.hs_types.specs.declared.matching.Match.{Match}
+use Rattle.hs_types.specs.declared.meta.Meta.{Meta}
+use Rattle.hs_types.specs.declared.rule.PatternEdge.{PatternEdge}
+use Rattle.hs_types.specs.declared.rule.PatternNode.{PatternNode}
+use Rattle.hs_types.specs.declared.rule.Rule.{Rule}
+use Rattle.hs_types.specs.declared.rule.Shape.{Shape}
+use Rattle.hs_types.specs.Arguments.{Follows}
+use Rattle.hs_types.specs.Dangling.{dropped_nodes, dropped_edges, NoneDangle}
+use Rattle.hs_types.specs.Lists.{has, Rise, beside}
+use Rattle.hs_types.specs.MatchOrder.{IsBefore, IsEarlier}
+use Rattle.hs_types.specs.Pattern.{is_left, is_drop, left_nodes, left_edges}
+use Rattle.hs_types.specs.PlainMatch.{image, IsImage, Extends, IsPlain, kernel_of}
+use Rattle.hs_types.specs.TypedGraph.{IsOf}
+use Rattle.hs_types.specs.ValidMatch.{IsValid, NoneIsValid, IsFirst, all_dropped_nodes, all_dropped_edges}
+use Rattle.hs_types.specs.ValidMatch as valid
+use Rattle.hs_finding.specs.Candidates.{Ascend}
+use Rattle.hs_finding.specs.Extending.{AreImages, split}
+use Rattle.hs_finding.specs.FirstMatch.{OnlyAdds, no_args}
+use Rattle.hs_finding.specs.Kernel.{kernel}
+
+Rise-above : {A : Type 0} (number : A → ℕ) (xs : List A) (low high i : ℕ) (a : A) → Rise low (map number xs) high → slice_get xs i ≡ Some a → low ≤ number a
+Rise-above number [] low high i a r at = cc
+Rise-above number (x ∷ xs) low high zero a r at = let e : x ≡ a = cc in let le : low ≤ number x = r.0 in rw e at le
+Rise-above number (x ∷ xs) low high (suc i) a r at = let rest = Rise-above number xs (number x + 1) high i a r.1 at in let le : low ≤ number x = r.0 in omega (arith, rest, le)
+
+Ascend-cons : {A : Type 0} (number : A → ℕ) (x : A) (xs : List A) → ((j : ℕ) (b : A) → slice_get xs j ≡ Some b → number x + 1 ≤ number b) → Ascend number xs → Ascend number (x ∷ xs)
+Ascend-cons {A} number x xs least up = go
+  where
+    go : (i j : ℕ) (a b : A) → slice_get (x ∷ xs) i ≡ Some a → slice_get (x ∷ xs) j ≡ Some b → i < j → number a < number b
+    go zero zero a b p q lt = absurd (omega arith)
+    go (suc i) zero a b p q lt = absurd (omega arith)
+    go zero (suc j) a b p q lt = let e : x ≡ a = cc in let above = least j b q in rw (← e) (omega (arith, above))
+    go (suc i) (suc j) a b p q lt = up i j a b p q (omega arith)
+
+-- numbers that rise differ from place to place
+pub Rise-Ascend : {A : Type 0} (number : A → ℕ) (xs : List A) (low high : ℕ) → Rise low (map number xs) high → Ascend number xs
+Rise-Ascend number [] low high r = λ i j a b p q lt. cc
+Rise-Ascend {A} number (x ∷ xs) low high r = Ascend-cons number x xs (λ j b. Rise-above number xs (number x + 1) high j b r.1) (Rise-Ascend number xs (number x + 1) high r.1)
+
+-- lists in the one order are so in the other
+before_below : (ms ns : List ℕ) → IsBefore ms ns → IsBelow ms ns
+before_below [] [] b = b
+before_below [] (n ∷ ns) b = tt
+before_below (m ∷ ms) [] b = b
+before_below (m ∷ ms) (n ∷ ns) b = elim b [ inl less ↦ inl less | inr same ↦ inr (same.0, before_below ms ns same.1) ]
+
+same_front : (ns ms es : List ℕ) → IsBelow ms es → IsBelow (ns ++ ms) (ns ++ es)
+same_front [] ms es b = b
+same_front (n ∷ ns) ms es b = inr (refl, same_front ns ms es b)
+
+before_longer : (ms ns xs ys : List ℕ) → length ms ≡ length ns → IsBefore ms ns → IsBelow (ms ++ xs) (ns ++ ys)
+before_longer [] [] xs ys e b = absurd b
+before_longer [] (n ∷ ns) xs ys e b = absurd (omega arith)
+before_longer (m ∷ ms) [] xs ys e b = absurd (omega arith)
+before_longer (m ∷ ms) (n ∷ ns) xs ys e b = elim b [ inl less ↦ inl less | inr same ↦ inr (same.0, before_longer ms ns xs ys (omega arith) same.1) ]
+
+pub earlier_below : (x y : Extension) → length x.nodes ≡ length y.nodes → IsEarlier x y → IsBelow (x.nodes ++ x.edges) (y.nodes ++ y.edges)
+earlier_below x y e b = elim b [
+  | inl nodes ↦ before_longer x.nodes y.nodes x.edges y.edges e nodes
+  | inr edges ↦ rw edges.0 (same_front y.nodes x.edges y.edges (before_below x.edges y.edges edges.1))
+]
+
+-- nothing is dropped where no mark says so
+beside_none : {A B : Type 0} (test : A → Bool) (xs : List A) (ys : List B) → All (λ x. test x ≡ false) xs → beside test xs ys ≡ []
+beside_none test [] ys h = refl
+beside_none test (x ∷ xs) [] h = refl
+beside_none {A} test (x ∷ xs) (y ∷ ys) h = rw (All-head (λ (x : A). test x ≡ false) x xs h) (beside_none test xs ys (All-tail (λ (x : A). test x ≡ false) x xs h))
+
+follow_none : (g : Graph) (ps : List PatternNode) (ns : List ℕ) → length ns ≡ length ps → AllZip (Follows g no_args) ps ns
+follow_none g [] [] e = tt
+follow_none g [] (n ∷ ns) e = absurd (omega arith)
+follow_none g (p ∷ ps) [] e = absurd (omega arith)
+follow_none g (p ∷ ps) (n ∷ ns) e = (tt, follow_none g ps ns (omega arith))
+
+-- the kernel's images are a plain match
+pub plain_of : (m : Meta) (g : Graph) (shape : Shape) (all : List ℕ) → AreImages (kernel m g shape) all → IsPlain m g shape (split (kernel m g shape) all)
+plain_of m g shape all i = record { nodes_fit = i.nodes_fit; edges_fit = i.edges_fit; nodes_differ = i.nodes_differ; edges_differ = i.edges_differ }
+
+-- a plain match is a choice
+pub choice_of : (m : Meta) (g : Graph) (shape : Shape) (x : Extension) → IsPlain m g shape x → IsChoice (length (left_nodes shape.nodes) + length (left_edges shape.edges)) (AreImages (kernel m g shape)) (x.nodes ++ x.edges)
+choice_of m g shape x p =
+    let wn : length x.nodes ≡ length (left_nodes shape.nodes) = AllZip-long _ (left_nodes shape.nodes) x.nodes p.nodes_fit in
+    let we : length x.edges ≡ length (left_edges shape.edges) = AllZip-long _ (left_edges shape.edges) x.edges p.edges_fit in
+    let t : take (length (left_nodes shape.nodes)) (x.nodes ++ x.edges) ≡ x.nodes = take_at x.nodes x.edges (length (left_nodes shape.nodes)) wn in
+    let d : drop (length (left_nodes shape.nodes)) (x.nodes ++ x.edges) ≡ x.edges = drop_at x.nodes x.edges (length (left_nodes shape.nodes)) wn in
+    let same : split (kernel m g shape) (x.nodes ++ x.edges) ≡ x = rw (t, d) refl in
+    let good : AreImages (kernel m g shape) (x.nodes ++ x.edges) = rw same (record { nodes_fit = p.nodes_fit; edges_fit = p.edges_fit; nodes_differ = p.nodes_differ; edges_differ = p.edges_differ }) in
+    record { whole = omega (arith, length-append x.nodes x.edges); good = good }
+
+-- where a rule only adds, each plain match is valid
+pub valid_plain : (m : Meta) (g : Graph) (rule : Rule) (f : Match) → OnlyAdds rule → IsPlain m g rule.shape (kernel_of f) → f.copies ≡ [] → IsValid m g rule no_args f
+valid_plain m g rule f adds plain none =
+    let kept : dropped_nodes rule.shape (kernel_of f) ≡ [] =
+    beside_none (λ (node : PatternNode). is_drop node.mark) (left_nodes rule.shape.nodes) f.nodes (All-filter (λ (node : PatternNode). is_left node.mark) (λ (node : PatternNode). is_drop node.mark ≡ false) rule.shape.nodes adds.keeps_nodes) in
+    let no_drops : all_dropped_nodes rule f ≡ [] = rw (kept, adds.multis) refl in
+    record {
+      plain = plain;
+      follows = follow_none g (left_nodes rule.shape.nodes) f.nodes (AllZip-long _ (left_nodes rule.shape.nodes) f.nodes plain.nodes_fit);
+      none_dangle = rw no_drops (λ k d lt touched. cc);
+      wheres = rw adds.wheres (All-nil _);
+      sets_fit = rw adds.sets (All-nil _);
+      forbids = rw adds.forbids (All-nil _);
+      needs = rw adds.needs (All-nil _);
+      copies = rw (adds.multis, none) tt;
+      none_touch = rw (adds.multis) tt;
+    }
+
+-- the least choice is the least valid match
+pub least_valid : (m : Meta) (g : Graph) (rule : Rule) (all : List ℕ) (f : Match) → OnlyAdds rule →
+    f ≡ record { nodes = take (length (left_nodes rule.shape.nodes)) all; edges = drop (length (left_nodes rule.shape.nodes)) all; copies = [] } →
+    IsLeast (IsChoice (length (left_nodes rule.shape.nodes) + length (left_edges rule.shape.edges)) (AreImages (kernel m g rule.shape))) all → valid.IsLeast m g rule no_args f
+least_valid m g rule all f adds same l = rw same (record { valid = valid_plain m g rule _ adds plain refl; least = none_below })
+  where
+    found : Match
+    found = record { nodes = take (length (left_nodes rule.shape.nodes)) all; edges = drop (length (left_nodes rule.shape.nodes)) all; copies = [] }
+
+    plain : IsPlain m g rule.shape (kernel_of found)
+    plain = plain_of m g rule.shape all l.wanted.good
+
+    none_below : (h : Match) → IsValid m g rule no_args h → IsEarlier (kernel_of h) (kernel_of found) → ⊥
+    none_below h v earlier =
+        let wh : length h.nodes ≡ length (left_nodes rule.shape.nodes) = AllZip-long _ (left_nodes rule.shape.nodes) h.nodes v.plain.nodes_fit in
+        let wf : length found.nodes ≡ length (left_nodes rule.shape.nodes) = AllZip-long _ (left_nodes rule.shape.nodes) found.nodes plain.nodes_fit in
+        let below : IsBelow (h.nodes ++ h.edges) (found.nodes ++ found.edges) = earlier_below (kernel_of h) (kernel_of found) (wh ∙ sym wf) earlier in
+        l.least (h.nodes ++ h.edges) (choice_of m g rule.shape (kernel_of h) v.plain) (rw (take-append-drop (length (left_nodes rule.shape.nodes)) all) at below)
+
+pub none_valid : (m : Meta) (g : Graph) (rule : Rule) → IsNone (IsChoice (length (left_nodes rule.shape.nodes) + length (left_edges rule.shape.edges)) (AreImages (kernel m g rule.shape))) → NoneIsValid m g rule no_args
+none_valid m g rule none = λ f v. none (f.nodes ++ f.edges) (choice_of m g rule.shape (kernel_of f) v.plain)

@@ -1,0 +1,8 @@
+pub mod Candidates
+pub mod Conformance
+pub mod Distinct
+pub mod Extending
+pub mod FirstMatch
+pub mod Kernel
+pub mod Linked
+pub mod View
