@@ -1,3 +1,5 @@
+ghost use Rattle.std.specs.Prelude.{◌↔◌, IsTrue, IsOk};
+
 use hs_json::BundleFault;
 use std::alloc::{AllocError, AllocFailed};
 
@@ -40,6 +42,8 @@ impl From<BundleFault> for Refusal {
 }
 
 /// Goes on where the test holds.
-pub fn demand(test: bool) -> Result<(), Refusal> {
+pub fn demand(test: bool) -> Result<(), Refusal>
+    ensures { IsOk result ↔ IsTrue test }
+{
     if test { Ok(()) } else { Err(Refusal::NotBuilt) }
 }

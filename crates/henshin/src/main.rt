@@ -2,8 +2,8 @@
 //!
 //! [`once`](once::once) is the program over any source and sink; `main` hands it the real ones. The
 //! way of `apply`: the source is read to its end ([`reading`]), the bundle's rule text becomes a rule
-//! ([`words`], [`rule_text`], [`resolving`]), the rule is matched and the step made ([`matching`],
-//! [`step`], [`serial`]), the report becomes a text ([`report`], [`lines`],
+//! ([`words`], [`rule_text`], [`resolving`]), the rule is matched and the step made ([`serial`],
+//! [`step`]), the report becomes a text ([`report`], [`lines`],
 //! [`graph_line`]), and the text is written
 //! ([`writing`]).
 #![tactic(auto)]
@@ -12,7 +12,6 @@ mod fault;
 mod graph_line;
 mod index;
 mod lines;
-mod matching;
 mod once;
 mod reading;
 mod report;

@@ -16,11 +16,7 @@ pub enum ReadError {
 const PIECE: usize = 1 << 16;
 
 /// Reads the source to its end, or until it has given more than `most` bytes.
-pub fn read_all<S: Source>(
-    alloc: Global,
-    source: &mut S,
-    most: usize,
-) -> Result<Vec<u8>, ReadError>
+pub fn read_all<S: Source>(alloc: Global, source: &mut S, most: usize) -> Result<Vec<u8>, ReadError>
     ensures whole { IfOk result (λ v. IfSome (S.left source.old) (λ bytes. (v.items ≡ bytes) × (S.left source.new ≡ Some []))) }
     ensures fits { IfOk result (λ v. length v.items ≤ most) }
     ensures too_long { result ≡ Err ReadError.TooLong → IfSome (S.left source.old) (λ bytes. most < length bytes) }

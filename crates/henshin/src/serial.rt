@@ -1,12 +1,15 @@
 //! A bundle's requests, run one after the other.
 
+ghost use Rattle.hs_finding.specs.FirstMatch.{InOrder, IsSmall, OnlyAdds};
+ghost use Rattle.henshin.specs.Room.{HasRoom};
+
 use crate::fault::{Refusal, demand};
-use crate::matching::first_match;
 use crate::report::{Reply, Report, Word};
 use crate::resolving::resolved;
 use crate::rule_text::rule_of;
-use crate::step::apply;
+use crate::step::{apply, has_room};
 use hs_expr::{List, Text};
+use hs_finding::{first_match, is_in_order, is_small, only_adds};
 use hs_json::{Bundle, read_bundle};
 use hs_types::{
     Args, Entry, Graph, ListGraph, Match, MatchNames, Outcome, Rule, RuleSet, Tried, What,
@@ -34,6 +37,10 @@ pub fn serve(alloc: Global, bytes: &[u8]) -> Result<Served, Refusal> {
             demand(request.call == rule.name)?;
         }
     }
+    demand(is_in_order(&graph.graph))?;
+    demand(is_small(&rule.shape))?;
+    demand(only_adds(&rule))?;
+    demand(has_room(&graph.graph, &rule))?;
     let report = request_served(alloc, graph, &rule)?;
     let mut rules = List::new(alloc);
     rules.push(rule)?;
@@ -48,9 +55,14 @@ pub fn serve(alloc: Global, bytes: &[u8]) -> Result<Served, Refusal> {
 }
 
 /// The report of one request of one session, which calls the rule.
-fn request_served(alloc: Global, graph: ListGraph, rule: &Rule) -> Result<Report, AllocError> {
+fn request_served(alloc: Global, graph: ListGraph, rule: &Rule) -> Result<Report, AllocError>
+    requires in_order { InOrder graph.graph }
+    requires small { IsSmall rule.now.shape }
+    requires only_adds { OnlyAdds rule.now }
+    requires room { HasRoom graph.graph rule.now }
+{
     let ListGraph { meta, mut graph } = graph;
-    let (outcome, word) = match first_match(alloc, &graph, rule)? {
+    let (outcome, word) = match first_match(alloc, &meta, &graph, rule)? {
         None => (Outcome::Missed, Word::NoMatch),
         Some(found) => (applied(alloc, &mut graph, rule, &found)?, Word::Ok),
     };
@@ -90,7 +102,9 @@ fn applied(
     graph: &mut Graph,
     rule: &Rule,
     found: &Match,
-) -> Result<Outcome, AllocError> {
+) -> Result<Outcome, AllocError>
+    requires { HasRoom graph.old rule.now }
+{
     let found_names = MatchNames {
         nodes: names_of(alloc, graph, found)?,
         edges: found.edges.clone()?,
