@@ -49,3 +49,6 @@ fn run(rt: &HostRuntime) -> Status {
     let mut sink = SinkStd::new(rt.stdout());
     once(rt.alloc(), words.as_slice(), &mut source, &mut sink).status
 }
+
+#[cfg(test)]
+mod tests;
