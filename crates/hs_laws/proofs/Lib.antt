@@ -1,0 +1,9 @@
+pub mod Lists
+pub mod Lookups
+pub mod Images
+pub mod Values
+pub mod Kept
+pub mod Reading
+pub mod Spared
+pub mod Names
+pub mod Typed
