@@ -1,5 +1,5 @@
 -- Images of nodes, and matches that go on.
-use Rattle.std.proofs.Common.{ℕ, suc, zero, ◌+◌, ◌<◌, ◌≤◌, ◌≡◌, ◌⊎◌, inl, inr, List, [], ◌∷◌, ◌++◌, map, length, take, Bool, true, false, cond, not, ◌||◌, eqb, Option, Some, None, IsSomeAnd, slice_get, slice_index, refl, sym, ap, ◌∙◌, subst, arith, rules}
+use Rattle.std.proofs.Common.{ℕ, suc, zero, ◌+◌, ◌-◌, ◌<◌, ◌≤◌, ◌≡◌, ◌⊎◌, inl, inr, List, [], ◌∷◌, ◌++◌, map, length, take, Bool, true, false, cond, not, ◌||◌, eqb, Option, Some, None, IsSomeAnd, slice_get, slice_index, refl, sym, ap, ◌∙◌, subst, arith, rules}
 use Rattle.std.specs.List.{All, AllZip, filter}
 use Rattle.std.specs.Option.{option_map, unwrap_or}
 use Rattle.std.proofs.lemmas.Bool.{cases_Bool, both_ways, ne_eqb, or_from, false_from_ne_true}
@@ -114,3 +114,24 @@ image-front R (x ∷ xs) ys (m ∷ ms) ns (suc n) z l = elim (cases_Bool (is_lef
 -- The images of a match and of an extension, together.
 pub joined : (m : Meta) (g : Graph) (s : Shape) (f : Extension) (t : Shape) (x : Extension) → IsPlain m g s f → Extends m g s f t x → AllZip (FitsNode m g) (left_nodes (s.nodes ++ t.nodes)) (f.nodes ++ x.nodes)
 joined m g s f t x h e = rw (filter-append (λ n. is_left n.mark) s.nodes t.nodes) (AllZip-append (FitsNode m g) (left_nodes s.nodes) (left_nodes t.nodes) f.nodes x.nodes h.nodes_fit e.nodes_fit)
+
+-- The image of a node of the part is that among the part's own.
+pub image-behind : (R : PatternNode → ℕ → Type 0) (xs ys : List PatternNode) (ms ns : List ℕ) (n : ℕ) → AllZip R (left_nodes xs) ms → length xs ≤ n → image (xs ++ ys) (ms ++ ns) n ≡ image ys ns (n - length xs)
+image-behind R [] ys [] ns n z l = let e : n - 0 ≡ n = omega arith in rw e refl
+image-behind R [] ys (m ∷ ms) ns n z l = absurd z
+image-behind R (x ∷ xs) ys ms ns zero z l = absurd (omega arith)
+image-behind R (x ∷ xs) ys [] ns (suc n) z l = elim (cases_Bool (is_left x.mark)) [
+  | inl e ↦ absurd (rw e at z)
+  | inr e ↦ let a : image (x ∷ (xs ++ ys)) ns (suc n) ≡ image (xs ++ ys) ns n = rw e refl in
+    let s : suc n - length (x ∷ xs) ≡ n - length xs = omega arith in
+    a ∙ (image-behind R xs ys [] ns n (rw e at z) (omega arith) ∙ ap (image ys ns) (sym s))
+]
+image-behind R (x ∷ xs) ys (m ∷ ms) ns (suc n) z l =
+    let s : suc n - length (x ∷ xs) ≡ n - length xs = omega arith in
+    elim (cases_Bool (is_left x.mark)) [
+      | inl e ↦ let z' : AllZip R (x ∷ left_nodes xs) (m ∷ ms) = rw e at z in
+        let a : image (x ∷ (xs ++ ys)) (m ∷ (ms ++ ns)) (suc n) ≡ image (xs ++ ys) (ms ++ ns) n = rw e refl in
+        a ∙ (image-behind R xs ys ms ns n z'.1 (omega arith) ∙ ap (image ys ns) (sym s))
+      | inr e ↦ let a : image (x ∷ (xs ++ ys)) (m ∷ (ms ++ ns)) (suc n) ≡ image (xs ++ ys) (m ∷ (ms ++ ns)) n = rw e refl in
+        a ∙ (image-behind R xs ys (m ∷ ms) ns n (rw e at z) (omega arith) ∙ ap (image ys ns) (sym s))
+    ]

@@ -7,3 +7,6 @@ pub mod Reading
 pub mod Spared
 pub mod Names
 pub mod Typed
+pub mod Classes
+pub mod Staying
+pub mod Planned

@@ -282,3 +282,38 @@ pub slice_get-last : {A : Type 0} (xs ys : List A) (n : ℕ) → length xs ≤ n
 slice_get-last [] ys n l = let e : n - 0 ≡ n = omega arith in rw e refl
 slice_get-last (x ∷ xs) ys zero l = absurd (omega arith)
 slice_get-last (x ∷ xs) ys (suc n) l = let e : suc n - length (x ∷ xs) ≡ n - length xs = omega arith in rw e (slice_get-last xs ys n (omega arith))
+
+pub has-flat_map_none : {A : Type 0} (h : A → List ℕ) (xs : List A) (n : ℕ) → All (λ x. has (h x) n ≡ false) xs → has (flat_map h xs) n ≡ false
+has-flat_map_none h [] n a = refl
+has-flat_map_none h (x ∷ xs) n a = has-neither n (h x) (flat_map h xs) (All-head (λ x. has (h x) n ≡ false) x xs a) (has-flat_map_none h xs n (All-tail (λ x. has (h x) n ≡ false) x xs a))
+
+pub EachPair-flat_map : {A B : Type 0} (R : B → B → Type 0) (h : A → List B) (xs : List A) → All (λ x. EachPair R (h x)) xs → EachPair (λ x y. All (λ a. All (R a) (h y)) (h x)) xs → EachPair R (flat_map h xs)
+EachPair-flat_map R h [] a p = tt
+EachPair-flat_map {A} {B} R h (x ∷ xs) a p = EachPair-append R (h x) (flat_map h xs) (All-head (λ x. EachPair R (h x)) x xs a) (EachPair-flat_map R h xs (All-tail (λ x. EachPair R (h x)) x xs a) p.1) (across (h x) xs p.0)
+  where
+    across : (as' : List B) (ys : List A) → All (λ y. All (λ a. All (R a) (h y)) as') ys → All (λ a. All (R a) (flat_map h ys)) as'
+    across as' ys q k d l = All-flat_map (R (get_or as' k d)) h ys (All-weaker (λ y. All (λ a. All (R a) (h y)) as') (λ y. All (R (get_or as' k d)) (h y)) (λ y i. i k d l) ys q)
+
+pub EachPair-weaker : {A : Type 0} (R S : A → A → Type 0) → ((x y : A) → R x y → S x y) → (xs : List A) → EachPair R xs → EachPair S xs
+EachPair-weaker R S f [] p = tt
+EachPair-weaker R S f (x ∷ xs) p = (All-weaker (R x) (S x) (f x) xs p.0, EachPair-weaker R S f xs p.1)
+
+-- A relation of two items of which something more is known of each.
+pub EachPair-known : {A : Type 0} (P : A → Type 0) (R S : A → A → Type 0) → ((x y : A) → P x → P y → R x y → S x y) → (xs : List A) → All P xs → EachPair R xs → EachPair S xs
+EachPair-known P R S f [] a p = tt
+EachPair-known P R S f (x ∷ xs) a p = (All-weaker (λ y. P y × R x y) (S x) (λ y i. f x y (All-head P x xs a) i.0 i.1) xs (All-both P (R x) xs (All-tail P x xs a) p.0), EachPair-known P R S f xs (All-tail P x xs a) p.1)
+
+-- Numbers of lists that are apart differ.
+pub Apart-differ : (ms ns : List ℕ) → Apart ms ns → All (λ m. All (λ n. m ≡ n → ⊥) ns) ms
+Apart-differ ms ns a = All-weaker (λ m. has ns m ≡ false) (λ m. All (λ n. m ≡ n → ⊥) ns) (λ m h. Differ-not m ns h) ms a
+
+-- A number that stands in a list that differs from a second.
+pub Differ-across : (ms ns : List ℕ) (n : ℕ) → Differ (ms ++ ns) → has ms n ≡ true → has ns n ≡ false
+Differ-across ms ns n d h = Differ-apart n ns (All-has (λ m. All (λ k. m ≡ k → ⊥) ns) ms n (EachPair-across (λ x y. x ≡ y → ⊥) ms ns d) h)
+
+pub Differ-across_back : (ms ns : List ℕ) (n : ℕ) → Differ (ms ++ ns) → has ns n ≡ true → has ms n ≡ false
+Differ-across_back ms ns n d h = false_from_ne_true (has ms n) (λ k. both_ways (has ns n) (Differ-across ms ns n d k) h)
+
+-- Some of the numbers are none of those that all of them are apart from.
+pub has_not : (ms ns : List ℕ) (n : ℕ) → ((k : ℕ) → has ms k ≡ true → has ns k ≡ true) → has ns n ≡ false → has ms n ≡ false
+has_not ms ns n f h = false_from_ne_true (has ms n) (λ k. both_ways (has ns n) h (f n k))
