@@ -1,8 +1,8 @@
 -- Conformance, and what classes inherit.
-use Rattle.std.proofs.Common.{ℕ, suc, zero, ◌+◌, ◌<◌, ◌≤◌, ◌≡◌, ◌⊎◌, inl, inr, List, [], ◌∷◌, ◌++◌, map, length, Bool, true, false, cond, not, eqb, Option, Some, None, IsSomeAnd, IsSome, slice_get, refl, sym, ap, ◌∙◌, subst, arith, rules}
-use Rattle.std.specs.List.{All, filter, flat_map}
-use Rattle.std.specs.Option.{option_map, unwrap_or, is_some}
-use Rattle.std.proofs.lemmas.Bool.{cases_Bool, both_ways, eqb-true, eq-eqb, ne_eqb}
+use Rattle.std.proofs.Common.{ℕ, suc, zero, ◌<◌, ◌≡◌, inl, inr, List, [], ◌∷◌, ◌++◌, length, Bool, true, false, not, eqb, Option, Some, None, IsSomeAnd, slice_get, refl, sym, ap, subst, arith}
+use Rattle.std.specs.List.{filter, flat_map}
+use Rattle.std.specs.Option.{is_some}
+use Rattle.std.proofs.lemmas.Bool.{cases_Bool, both_ways, eqb-true, eq-eqb}
 use Rattle.hs_types.specs.declared.graph.Graph.{Graph}
 use Rattle.hs_types.specs.declared.graph.Object.{Object}
 use Rattle.hs_types.specs.declared.meta.Class.{Class}

@@ -1,20 +1,17 @@
 -- Images of nodes, and matches that go on.
-use Rattle.std.proofs.Common.{ℕ, suc, zero, ◌+◌, ◌-◌, ◌<◌, ◌≤◌, ◌≡◌, ◌⊎◌, inl, inr, List, [], ◌∷◌, ◌++◌, map, length, take, Bool, true, false, cond, not, ◌||◌, eqb, Option, Some, None, IsSomeAnd, slice_get, slice_index, refl, sym, ap, ◌∙◌, subst, arith, rules}
-use Rattle.std.specs.List.{All, AllZip, filter}
-use Rattle.std.specs.Option.{option_map, unwrap_or}
+use Rattle.std.proofs.Common.{ℕ, suc, zero, ◌-◌, ◌≤◌, ◌≡◌, inl, inr, List, [], ◌∷◌, ◌++◌, length, true, false, eqb, Some, slice_get, refl, sym, ap, ◌∙◌, subst, arith}
+use Rattle.std.specs.List.{All, AllZip}
 use Rattle.std.proofs.lemmas.Bool.{cases_Bool, both_ways, ne_eqb, or_from, false_from_ne_true}
-use Rattle.std.proofs.lemmas.List.Elements.{All-nil, All-cons, All-head, All-tail, filter-append}
+use Rattle.std.proofs.lemmas.List.Elements.{All-head, All-tail, filter-append}
 use Rattle.hs_types.specs.declared.graph.Graph.{Graph}
-use Rattle.hs_types.specs.declared.graph.Object.{Object}
 use Rattle.hs_types.specs.declared.matching.Extension.{Extension}
 use Rattle.hs_types.specs.declared.meta.Meta.{Meta}
-use Rattle.hs_types.specs.declared.rule.PatternEdge.{PatternEdge}
 use Rattle.hs_types.specs.declared.rule.PatternNode.{PatternNode}
 use Rattle.hs_types.specs.declared.rule.Shape.{Shape}
 use Rattle.hs_types.specs.Lists.{has, beside, Differ}
-use Rattle.hs_types.specs.Pattern.{is_left, is_drop, left_nodes, left_edges, node_is}
-use Rattle.hs_types.specs.PlainMatch.{image, IsImage, Extends, IsPlain}
-use Rattle.hs_types.specs.TypedGraph.{object_at, Stands, IsOf}
+use Rattle.hs_types.specs.Pattern.{is_left, is_drop, left_nodes, node_is}
+use Rattle.hs_types.specs.PlainMatch.{image, Extends, IsPlain}
+use Rattle.hs_types.specs.TypedGraph.{IsOf}
 use Rattle.hs_laws.proofs.Lists.{AllZip-append, Differ-apart, All-by_has, beside-has}
 
 -- The object at n is of the node's class.
@@ -36,7 +33,7 @@ image-all R P (x ∷ xs) [] (suc n) z a l = elim (cases_Bool (is_left x.mark)) [
 ]
 image-all R P (x ∷ xs) (i ∷ is) (suc n) z a l = elim (cases_Bool (is_left x.mark)) [
   | inl e ↦ let z' : AllZip R (x ∷ left_nodes xs) (i ∷ is) = rw e at z in
-    let same : image (x ∷ xs) (i ∷ is) (suc n) ≡ image xs is n = rw e refl in subst P (sym same) (image-all R P xs is n z'.1 (All-tail P i is a) l)
+      let same : image (x ∷ xs) (i ∷ is) (suc n) ≡ image xs is n = rw e refl in subst P (sym same) (image-all R P xs is n z'.1 (All-tail P i is a) l)
   | inr e ↦ let same : image (x ∷ xs) (i ∷ is) (suc n) ≡ image xs (i ∷ is) n = rw e refl in subst P (sym same) (image-all R P xs (i ∷ is) n (rw e at z) a l)
 ]
 
@@ -51,10 +48,10 @@ image-at R (y ∷ ys) [] (suc n) x z h l = elim (cases_Bool (is_left y.mark)) [
 ]
 image-at R (y ∷ ys) (i ∷ is) (suc n) x z h l = elim (cases_Bool (is_left y.mark)) [
   | inl e ↦ let z' : AllZip R (y ∷ left_nodes ys) (i ∷ is) = rw e at z in
-    let same : image (y ∷ ys) (i ∷ is) (suc n) ≡ image ys is n = rw e refl in
-    subst (R x) (sym same) (image-at R ys is n x z'.1 h l)
+      let same : image (y ∷ ys) (i ∷ is) (suc n) ≡ image ys is n = rw e refl in
+      subst (R x) (sym same) (image-at R ys is n x z'.1 h l)
   | inr e ↦ let same : image (y ∷ ys) (i ∷ is) (suc n) ≡ image ys (i ∷ is) n = rw e refl in
-    subst (R x) (sym same) (image-at R ys (i ∷ is) n x (rw e at z) h l)
+      subst (R x) (sym same) (image-at R ys (i ∷ is) n x (rw e at z) h l)
 ]
 
 -- It is one of the images.
@@ -82,14 +79,14 @@ image-stays R (y ∷ ys) (i ∷ is) zero x z d h l k =
     subst (λ (o : ℕ). has (beside (λ k. is_drop k.mark) (left_nodes (y ∷ ys)) (i ∷ is)) o ≡ false) (sym at) (rw (left, kept) rest)
 image-stays R (y ∷ ys) (i ∷ is) (suc n) x z d h l k = elim (cases_Bool (is_left y.mark)) [
   | inl e ↦ let z' : AllZip R (y ∷ left_nodes ys) (i ∷ is) = rw e at z in
-    let o : ℕ = image ys is n in
-    let same : image (y ∷ ys) (i ∷ is) (suc n) ≡ image ys is n = rw e refl in
-    let rest : has (beside (λ k. is_drop k.mark) (left_nodes ys) is) o ≡ false = image-stays R ys is n x z'.1 d.1 h l k in
-    let among : has is o ≡ true = image-among R ys is n z'.1 (IsLeft-from ys n x h l) in
-    let differs : eqb o i ≡ false = ne_eqb o i (λ s. both_ways (has is i) (Differ-apart i is d.0) (subst (λ (j : ℕ). has is j ≡ true) s among)) in
-    subst (λ (o : ℕ). has (beside (λ k. is_drop k.mark) (left_nodes (y ∷ ys)) (i ∷ is)) o ≡ false) (sym same) (rw e (elim (cases_Bool (is_drop y.mark)) [ inl t ↦ rw t (or_from (eqb o i) (has (beside (λ k. is_drop k.mark) (left_nodes ys) is) o) differs rest) | inr t ↦ rw t rest ]))
+      let o : ℕ = image ys is n in
+      let same : image (y ∷ ys) (i ∷ is) (suc n) ≡ image ys is n = rw e refl in
+      let rest : has (beside (λ k. is_drop k.mark) (left_nodes ys) is) o ≡ false = image-stays R ys is n x z'.1 d.1 h l k in
+      let among : has is o ≡ true = image-among R ys is n z'.1 (IsLeft-from ys n x h l) in
+      let differs : eqb o i ≡ false = ne_eqb o i (λ s. both_ways (has is i) (Differ-apart i is d.0) (subst (λ (j : ℕ). has is j ≡ true) s among)) in
+      subst (λ (o : ℕ). has (beside (λ k. is_drop k.mark) (left_nodes (y ∷ ys)) (i ∷ is)) o ≡ false) (sym same) (rw e (elim (cases_Bool (is_drop y.mark)) [ inl t ↦ rw t (or_from (eqb o i) (has (beside (λ k. is_drop k.mark) (left_nodes ys) is) o) differs rest) | inr t ↦ rw t rest ]))
   | inr e ↦ let same : image (y ∷ ys) (i ∷ is) (suc n) ≡ image ys (i ∷ is) n = rw e refl in
-    subst (λ (o : ℕ). has (beside (λ k. is_drop k.mark) (left_nodes (y ∷ ys)) (i ∷ is)) o ≡ false) (sym same) (rw e (image-stays R ys (i ∷ is) n x (rw e at z) d h l k))
+      subst (λ (o : ℕ). has (beside (λ k. is_drop k.mark) (left_nodes (y ∷ ys)) (i ∷ is)) o ≡ false) (sym same) (rw e (image-stays R ys (i ∷ is) n x (rw e at z) d h l k))
 ]
 
 -- More nodes and images behind change no image.
@@ -103,12 +100,12 @@ image-front R (x ∷ xs) ys [] ns (suc n) z l = elim (cases_Bool (is_left x.mark
 ]
 image-front R (x ∷ xs) ys (m ∷ ms) ns (suc n) z l = elim (cases_Bool (is_left x.mark)) [
   | inl e ↦ let z' : AllZip R (x ∷ left_nodes xs) (m ∷ ms) = rw e at z in
-    let a : image (x ∷ (xs ++ ys)) (m ∷ (ms ++ ns)) (suc n) ≡ image (xs ++ ys) (ms ++ ns) n = rw e refl in
-    let b : image (x ∷ xs) (m ∷ ms) (suc n) ≡ image xs ms n = rw e refl in
-    a ∙ (image-front R xs ys ms ns n z'.1 l ∙ sym b)
+      let a : image (x ∷ (xs ++ ys)) (m ∷ (ms ++ ns)) (suc n) ≡ image (xs ++ ys) (ms ++ ns) n = rw e refl in
+      let b : image (x ∷ xs) (m ∷ ms) (suc n) ≡ image xs ms n = rw e refl in
+      a ∙ (image-front R xs ys ms ns n z'.1 l ∙ sym b)
   | inr e ↦ let a : image (x ∷ (xs ++ ys)) (m ∷ (ms ++ ns)) (suc n) ≡ image (xs ++ ys) (m ∷ (ms ++ ns)) n = rw e refl in
-    let b : image (x ∷ xs) (m ∷ ms) (suc n) ≡ image xs (m ∷ ms) n = rw e refl in
-    a ∙ (image-front R xs ys (m ∷ ms) ns n (rw e at z) l ∙ sym b)
+      let b : image (x ∷ xs) (m ∷ ms) (suc n) ≡ image xs (m ∷ ms) n = rw e refl in
+      a ∙ (image-front R xs ys (m ∷ ms) ns n (rw e at z) l ∙ sym b)
 ]
 
 -- The images of a match and of an extension, together.
@@ -123,15 +120,15 @@ image-behind R (x ∷ xs) ys ms ns zero z l = absurd (omega arith)
 image-behind R (x ∷ xs) ys [] ns (suc n) z l = elim (cases_Bool (is_left x.mark)) [
   | inl e ↦ absurd (rw e at z)
   | inr e ↦ let a : image (x ∷ (xs ++ ys)) ns (suc n) ≡ image (xs ++ ys) ns n = rw e refl in
-    let s : suc n - length (x ∷ xs) ≡ n - length xs = omega arith in
-    a ∙ (image-behind R xs ys [] ns n (rw e at z) (omega arith) ∙ ap (image ys ns) (sym s))
+      let s : suc n - length (x ∷ xs) ≡ n - length xs = omega arith in
+      a ∙ (image-behind R xs ys [] ns n (rw e at z) (omega arith) ∙ ap (image ys ns) (sym s))
 ]
 image-behind R (x ∷ xs) ys (m ∷ ms) ns (suc n) z l =
     let s : suc n - length (x ∷ xs) ≡ n - length xs = omega arith in
     elim (cases_Bool (is_left x.mark)) [
       | inl e ↦ let z' : AllZip R (x ∷ left_nodes xs) (m ∷ ms) = rw e at z in
-        let a : image (x ∷ (xs ++ ys)) (m ∷ (ms ++ ns)) (suc n) ≡ image (xs ++ ys) (ms ++ ns) n = rw e refl in
-        a ∙ (image-behind R xs ys ms ns n z'.1 (omega arith) ∙ ap (image ys ns) (sym s))
+          let a : image (x ∷ (xs ++ ys)) (m ∷ (ms ++ ns)) (suc n) ≡ image (xs ++ ys) (ms ++ ns) n = rw e refl in
+          a ∙ (image-behind R xs ys ms ns n z'.1 (omega arith) ∙ ap (image ys ns) (sym s))
       | inr e ↦ let a : image (x ∷ (xs ++ ys)) (m ∷ (ms ++ ns)) (suc n) ≡ image (xs ++ ys) (m ∷ (ms ++ ns)) n = rw e refl in
-        a ∙ (image-behind R xs ys (m ∷ ms) ns n (rw e at z) (omega arith) ∙ ap (image ys ns) (sym s))
+          a ∙ (image-behind R xs ys (m ∷ ms) ns n (rw e at z) (omega arith) ∙ ap (image ys ns) (sym s))
     ]

@@ -1,8 +1,8 @@
 -- Matches and extensions in the graph after a step.
-use Rattle.std.proofs.Common.{ℕ, suc, zero, ◌+◌, ◌<◌, ◌≤◌, ◌≡◌, ◌⊎◌, inl, inr, List, [], ◌∷◌, ◌++◌, map, length, Bool, true, false, cond, not, ◌||◌, ◌&&◌, eqb, Option, Some, None, IsSomeAnd, refl, sym, ap, ◌∙◌, subst, arith, rules}
-use Rattle.std.specs.List.{All, AllZip, filter, find, list_any, flat_map}
-use Rattle.std.proofs.lemmas.Bool.{cases_Bool, both_ways, eqb-true, or_cases, or_from, and_right, and_parts, or_parts}
-use Rattle.std.proofs.lemmas.List.Elements.{All-nil, All-cons, All-head, All-tail, All-append, All-weaker, All-filter}
+use Rattle.std.proofs.Common.{ℕ, ◌+◌, ◌<◌, ◌≡◌, inl, inr, List, [], ◌∷◌, ◌++◌, true, false, not, ◌||◌, ◌&&◌, eqb, Option, Some, None, IsSomeAnd, refl, ap, subst}
+use Rattle.std.specs.List.{All, AllZip, filter, list_any}
+use Rattle.std.proofs.lemmas.Bool.{both_ways, eqb-true, or_cases, or_from, and_right, and_parts}
+use Rattle.std.proofs.lemmas.List.Elements.{All-nil, All-cons, All-head, All-tail, All-append, All-filter}
 use Rattle.hs_types.specs.declared.graph.Edge.{Edge}
 use Rattle.hs_types.specs.declared.graph.Graph.{Graph}
 use Rattle.hs_types.specs.declared.graph.Object.{Object}
@@ -18,7 +18,7 @@ use Rattle.hs_types.specs.declared.rule.Shape.{Shape}
 use Rattle.hs_types.specs.declared.rule.SlotKind.{SlotKind}
 use Rattle.hs_types.specs.declared.rule.SlotKind.TheVariants.{Attribute, Link, Container}
 use Rattle.hs_types.specs.Dangling.{NoneDangle}
-use Rattle.hs_types.specs.Lists.{has, Apart, Differ}
+use Rattle.hs_types.specs.Lists.{has, Apart}
 use Rattle.hs_types.specs.Metamodel.{Conforms}
 use Rattle.hs_types.specs.Pattern.{is_kind, is_left, left_nodes, left_edges}
 use Rattle.hs_types.specs.PlainMatch.{image, IsImage, Extends}
@@ -67,13 +67,15 @@ Extends-unmade m g p s f t x none h =
     let Q : PatternEdge → Type 0 = λ a. All (λ e. e.reference ≡ a.reference → ⊥) p.make_edges in
     let R : PatternNode → ℕ → Type 0 = λ node n. (has p.drop_objects n ≡ false) × IsOf m g node.class n in
     let both : AllZip R (left_nodes t.nodes) x.nodes = AllZip-items P (FitsNode m (step g p)) R (λ node n made k. object-unmade m g p node.class n made k) (left_nodes t.nodes) x.nodes (All-filter (λ n. is_left n.mark) P t.nodes none.objects) h.nodes_fit in
-    let stay : Apart x.nodes p.drop_objects = AllZip-right R (Stays p.drop_objects) (λ node n k. k.0) (left_nodes t.nodes) x.nodes both in
-    (record {
-      nodes_fit = AllZip-with (Stays p.drop_objects) R (FitsNode m g) (λ node n d k. k.1) (left_nodes t.nodes) x.nodes stay both;
-      edges_fit = AllZip-items Q (IsImage (step g p) at) (IsImage g at) (λ y n made k. edge-unmade g p n (edge_of at y n) made k) (left_edges t.edges) x.edges (All-filter (λ a. is_left a.mark) Q t.edges none.edges) h.edges_fit;
-      nodes_differ = h.nodes_differ;
-      edges_differ = h.edges_differ;
-    }, stay)
+    let stay : Apart x.nodes p.drop_objects = AllZip-right R (Stays p.drop_objects) (λ node n k. k.0) (left_nodes t.nodes) x.nodes both in (
+      record {
+        nodes_fit = AllZip-with (Stays p.drop_objects) R (FitsNode m g) (λ node n d k. k.1) (left_nodes t.nodes) x.nodes stay both;
+        edges_fit = AllZip-items Q (IsImage (step g p) at) (IsImage g at) (λ y n made k. edge-unmade g p n (edge_of at y n) made k) (left_edges t.edges) x.edges (All-filter (λ a. is_left a.mark) Q t.edges none.edges) h.edges_fit;
+        nodes_differ = h.nodes_differ;
+        edges_differ = h.edges_differ;
+      },
+      stay,
+    )
 
 -- No edge comes to dangle where none is made at what goes.
 pub NoneDangle-kept : (ns es : List ℕ) (g : Graph) (p : Plan) → All (λ e. (has ns (number_of g.next_object e.source) || has ns (number_of g.next_object e.target)) ≡ false) p.make_edges → NoneDangle ns es g → NoneDangle ns es (step g p)
@@ -81,8 +83,10 @@ NoneDangle-kept ns es g p ends h = All-append D (filter (λ e. not (has p.drop_e
   where
     D : Edge → Type 0
     D e = (has ns e.source || has ns e.target) ≡ true → has es e.number ≡ true
+
     E : MadeEdge → Type 0
     E e = (has ns (number_of g.next_object e.source) || has ns (number_of g.next_object e.target)) ≡ false
+
     made : (k : ℕ) (xs : List MadeEdge) → All E xs → All D (new_edges g.next_object k xs)
     made k [] a = All-nil D
     made k (x ∷ xs) a = All-cons D (record { number = k; source = number_of g.next_object x.source; reference = x.reference; target = number_of g.next_object x.target }) (new_edges g.next_object (k + 1) xs) (λ t. absurd (both_ways (has ns (number_of g.next_object x.source) || has ns (number_of g.next_object x.target)) (All-head E x xs a) t)) (made (k + 1) xs (All-tail E x xs a))
@@ -103,7 +107,7 @@ pub has_slot-all : (P : ℕ → SlotKind → Type 0) (slots : List PatternSlot) 
 has_slot-all P [] n kind a h = absurd (cc)
 has_slot-all P (slot ∷ slots) n kind a h = elim (or_cases (eqb slot.node n && is_kind slot.kind kind) (has_slot slots n kind) h) [
   | inl e ↦ let at = and_parts (eqb slot.node n) (is_kind slot.kind kind) e in
-    subst (λ (k : ℕ). P k kind) (eqb-true slot.node n at.0) (subst (λ (k : SlotKind). P slot.node k) (is_kind-same slot.kind kind at.1) (All-head (λ slot. P slot.node slot.kind) slot slots a))
+      subst (λ (k : ℕ). P k kind) (eqb-true slot.node n at.0) (subst (λ (k : SlotKind). P slot.node k) (is_kind-same slot.kind kind at.1) (All-head (λ slot. P slot.node slot.kind) slot slots a))
   | inr l ↦ has_slot-all P slots n kind (All-tail (λ slot. P slot.node slot.kind) slot slots a) l
 ]
 

@@ -10,3 +10,6 @@ pub mod Typed
 pub mod Classes
 pub mod Staying
 pub mod Planned
+pub mod Earlier
+pub mod Stepped
+pub mod Lawful

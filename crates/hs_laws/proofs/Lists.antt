@@ -1,9 +1,9 @@
 -- Lemmas on the words on lists.
-use Rattle.std.proofs.Common.{ℕ, suc, zero, ◌+◌, ◌-◌, ◌<◌, ◌≤◌, ◌≡◌, ◌⊎◌, inl, inr, List, [], ◌∷◌, ◌++◌, map, length, get_or, Bool, true, false, cond, not, ◌||◌, ◌&&◌, eqb, Option, Some, None, IsSomeAnd, slice_get, refl, sym, ap, ◌∙◌, subst, arith, rules, zero-add}
-use Rattle.std.specs.List.{All, AllZip, Contains, filter, filter_map, find, flat_map, list_any}
-use Rattle.std.specs.Option.{option_map, option_or}
-use Rattle.std.proofs.lemmas.Bool.{eqb-true, eq-eqb, ne_eqb, cases_Bool, both_ways, or_cases, or_right, or_left, or_from, or_parts, cond-true, cond-false, false_from_ne_true}
-use Rattle.std.proofs.lemmas.List.Elements.{All-nil, All-cons, All-head, All-tail, All-append, All-map, All-weaker, All-filter}
+use Rattle.std.proofs.Common.{ℕ, suc, zero, ◌+◌, ◌-◌, ◌<◌, ◌≤◌, ◌≡◌, ◌⊎◌, inl, inr, List, [], ◌∷◌, ◌++◌, map, length, get_or, Bool, true, false, eqb, Option, Some, None, IsSomeAnd, slice_get, refl, sym, ap, ◌∙◌, subst, arith, zero-add}
+use Rattle.std.specs.List.{All, AllZip, filter, filter_map, find, flat_map}
+use Rattle.std.specs.Option.{option_map}
+use Rattle.std.proofs.lemmas.Bool.{eqb-true, eq-eqb, ne_eqb, cases_Bool, both_ways, or_cases, or_right, or_left, or_from, cond-true, cond-false, false_from_ne_true}
+use Rattle.std.proofs.lemmas.List.Elements.{All-nil, All-cons, All-head, All-tail, All-append, All-weaker}
 use Rattle.hs_types.specs.Lists.{has, beside, Apart, Differ, EachPair, Rise}
 
 -- What the test finds passes it, and has what all items have.
@@ -76,6 +76,7 @@ All-filter_map {A} {B} P f (x ∷ xs) a = go (All-filter_map P f xs (All-tail Q 
   where
     Q : A → Type 0
     Q x = (y : B) → f x ≡ Some y → P y
+
     go : All P (filter_map f xs) → (o : Option B) → f x ≡ o → All P (filter_map f (x ∷ xs))
     go rest None e = rw e rest
     go rest (Some y) e = rw e (All-cons P y (filter_map f xs) (All-head Q x xs a y e) rest)

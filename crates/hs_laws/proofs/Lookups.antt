@@ -1,11 +1,10 @@
 -- What stands in the graph after a step.
-use Rattle.std.proofs.Common.{ℕ, suc, zero, ◌+◌, ◌<◌, ◌≤◌, ◌≡◌, ◌⊎◌, inl, inr, List, [], ◌∷◌, ◌++◌, map, length, Bool, true, false, cond, not, ◌||◌, ◌&&◌, eqb, Option, Some, None, IsSomeAnd, slice_get, refl, sym, ap, ◌∙◌, subst, arith, rules}
+use Rattle.std.proofs.Common.{ℕ, ◌+◌, ◌<◌, ◌≡◌, inl, inr, List, [], ◌∷◌, map, length, Bool, true, false, cond, not, eqb, Option, Some, None, IsSomeAnd, refl, sym, ap, ◌∙◌, subst, arith}
 use Rattle.std.specs.List.{All, filter, find, list_any}
-use Rattle.std.specs.Option.{option_map, option_or, option_and_then, unwrap_or}
-use Rattle.std.proofs.lemmas.Bool.{eqb-true, eq-eqb, ne_eqb, cases_Bool, both_ways, cond-true, cond-false, false_from_ne_true, or_parts, and_left, and_right, and_parts}
-use Rattle.std.proofs.lemmas.List.Elements.{All-nil, All-cons, All-head, All-tail}
+use Rattle.std.specs.Option.{option_map, option_or}
+use Rattle.std.proofs.lemmas.Bool.{eqb-true, cases_Bool, cond-true, or_parts}
+use Rattle.std.proofs.lemmas.List.Elements.{All-head, All-tail}
 use Rattle.std.proofs.lemmas.List.Folds.{find-append}
-use Rattle.hs_expr.specs.declared.value.Value.{Value}
 use Rattle.hs_types.specs.declared.graph.Edge.{Edge}
 use Rattle.hs_types.specs.declared.graph.Graph.{Graph}
 use Rattle.hs_types.specs.declared.graph.Object.{Object}
@@ -19,9 +18,8 @@ use Rattle.hs_types.specs.declared.rule.SlotKind.{SlotKind}
 use Rattle.hs_types.specs.declared.rule.SlotKind.TheVariants.{Attribute, Link, Container}
 use Rattle.hs_types.specs.Lists.{has, Rise}
 use Rattle.hs_types.specs.Metamodel.{Conforms}
-use Rattle.hs_types.specs.Pattern.{is_kind}
-use Rattle.hs_types.specs.TypedGraph.{object_at, edge_at, name_at, value_in, value_at, Stands, IsOf, hash_name}
-use Rattle.hs_types.specs.Step.{is_to, written, rewritten, new_objects, new_edges, number_of, step}
+use Rattle.hs_types.specs.TypedGraph.{object_at, edge_at, name_at, value_in, value_at, Stands, IsOf}
+use Rattle.hs_types.specs.Step.{is_to, written, rewritten, new_objects, new_edges, step}
 use Rattle.hs_laws.proofs.Lists.{find-passes, find-map, Rise_missing}
 
 -- What is found among those that are not dropped.
@@ -91,6 +89,7 @@ value_at-kept g p n (Attribute a) x d h w =
     unwritten : (ws : List Write) → list_any (is_to n (Attribute a)) ws ≡ false → find (is_to n (Attribute a)) ws ≡ None
     unwritten [] miss = refl
     unwritten (w ∷ ws) miss = let parts = or_parts (is_to n (Attribute a) w) (list_any (is_to n (Attribute a)) ws) miss in rw parts.0 (unwritten ws parts.1)
+
     in_slots : (ss : List Slot) → value_in a (map (written p.writes n) ss) ≡ value_in a ss
     in_slots [] = refl
     in_slots (s ∷ ss) = elim (cases_Bool (eqb s.attribute a)) [
@@ -143,6 +142,7 @@ object-unmade m g p class n none h =
       | inl e ↦ All-head (λ o. Conforms m o.class class → ⊥) o os a (rw e at h)
       | inr e ↦ unmade (k + 1) (j + 1) os (All-tail (λ o. Conforms m o.class class → ⊥) o os a) (rw e at h)
     ]
+
     back : (b : Bool) (o made : Option Object) → (IsSomeAnd made (λ o. Conforms m o.class class) → ⊥) → IsSomeAnd (option_or (option_map (rewritten p.writes) (cond b None o)) made) (λ o. Conforms m o.class class) → (b ≡ false) × IsSomeAnd o (λ o. Conforms m o.class class)
     back true o made miss h = absurd (miss h)
     back false None made miss h = absurd (miss h)
@@ -163,6 +163,7 @@ edge-unmade g p n e none h =
         reference_of : Option Edge → ℕ
         reference_of None = 0
         reference_of (Some x) = x.reference
+
     back : (b : Bool) (o made : Option Edge) → (made ≡ Some e → ⊥) → option_or (cond b None o) made ≡ Some e → o ≡ Some e
     back true o made miss h = absurd (miss h)
     back false None made miss h = absurd (miss h)

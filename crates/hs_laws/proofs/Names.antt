@@ -1,12 +1,11 @@
 -- Names of new objects.
-use Rattle.std.proofs.Common.{ℕ, suc, zero, ◌+◌, ◌<◌, ◌≤◌, ◌≡◌, ◌⊎◌, inl, inr, List, [], ◌∷◌, ◌++◌, map, length, get_or, Bool, true, false, cond, eqb, refl, sym, ap, ◌∙◌, subst, arith, rules}
+use Rattle.std.proofs.Common.{ℕ, suc, zero, ◌+◌, ◌<◌, ◌≤◌, ◌≡◌, inl, inr, List, [], ◌∷◌, ◌++◌, map, length, get_or, Bool, refl, sym, ap, ◌∙◌, arith}
 use Rattle.std.specs.List.{All, filter}
 use Rattle.std.specs.Int.Digits.{digits_of}
 use Rattle.std.proofs.lemmas.Bool.{cases_Bool}
 use Rattle.std.proofs.lemmas.Int.Digits.{same_from_digits_of, first_digits_of}
-use Rattle.std.proofs.lemmas.List.Elements.{All-nil, All-cons, All-head, All-tail, All-append, All-weaker, All-map, All-filter}
+use Rattle.std.proofs.lemmas.List.Elements.{All-nil, All-cons, All-weaker, All-map, All-filter}
 use Rattle.hs_types.specs.declared.plan.MadeObject.{MadeObject}
-use Rattle.hs_types.specs.declared.graph.Object.{Object}
 use Rattle.hs_types.specs.Lists.{Differ}
 use Rattle.hs_types.specs.Step.{new_objects}
 use Rattle.hs_types.specs.TypedGraph.{hash_name}
@@ -68,6 +67,7 @@ names-differ old n next os d below = EachPair-append (λ x y. x ≡ y → ⊥) o
   where
     new : List (List ℕ)
     new = map (λ o. o.name) (new_objects n next os)
+
     Old : List ℕ → Type 0
     Old x = (k : ℕ) → x ≡ hash_name k → k < next
 

@@ -1,6 +1,6 @@
 -- The plan of a valid match carries a typed graph to a typed graph.
-use Rattle.std.proofs.Common.{ℕ, suc, zero, ◌+◌, ◌-◌, ◌<◌, ◌≤◌, ◌≡◌, ◌⊎◌, inl, inr, List, [], ◌∷◌, ◌++◌, map, length, take, Bool, true, false, cond, not, ◌||◌, ◌&&◌, eqb, ltb, Option, Some, None, IsSomeAnd, IsSome, slice_get, refl, sym, ap, ◌∙◌, subst, arith, rules, length-append, zero-add, append_assoc}
-use Rattle.std.specs.List.{All, AllZip, cons_option, filter, filter_map, find, flat_map}
+use Rattle.std.proofs.Common.{ℕ, suc, zero, ◌+◌, ◌-◌, ◌≤◌, ◌≡◌, inl, inr, List, [], ◌∷◌, ◌++◌, map, length, take, Bool, true, false, not, ◌&&◌, eqb, ltb, Option, Some, None, IsSomeAnd, IsSome, slice_get, refl, sym, ap, ◌∙◌, subst, arith, length-append, zero-add, append_assoc}
+use Rattle.std.specs.List.{All, cons_option, filter, filter_map, find, flat_map}
 use Rattle.std.specs.Option.{option_map, option_and_then, option_or, unwrap_or, is_some}
 use Rattle.std.proofs.lemmas.Bool.{cases_Bool, both_ways, eqb-true, and_parts, ltb-true, ltb-false, not-true}
 use Rattle.std.proofs.lemmas.List.{append-nil}
@@ -11,13 +11,11 @@ use Rattle.hs_types.specs.declared.graph.Graph.{Graph}
 use Rattle.hs_types.specs.declared.graph.Slot.{Slot}
 use Rattle.hs_types.specs.declared.matching.Extension.{Extension}
 use Rattle.hs_types.specs.declared.matching.Match.{Match}
-use Rattle.hs_types.specs.declared.meta.DataType.{DataType}
 use Rattle.hs_types.specs.declared.meta.Feature.{Feature}
 use Rattle.hs_types.specs.declared.meta.FeatureKind.{FeatureKind}
 use Rattle.hs_types.specs.declared.meta.FeatureKind.TheVariants as feature
 use Rattle.hs_types.specs.declared.meta.Meta.{Meta}
 use Rattle.hs_types.specs.declared.plan.End.{End}
-use Rattle.hs_types.specs.declared.plan.End.TheVariants.{Old, New}
 use Rattle.hs_types.specs.declared.plan.MadeEdge.{MadeEdge}
 use Rattle.hs_types.specs.declared.plan.MadeObject.{MadeObject}
 use Rattle.hs_types.specs.declared.plan.Plan.{Plan}
@@ -34,16 +32,16 @@ use Rattle.hs_types.specs.Conditions.{AreFit, env_of}
 use Rattle.hs_types.specs.Copies.{Copy, copies_of, copy_env, images_of, nodes_of}
 use Rattle.hs_types.specs.Lists.{has}
 use Rattle.hs_types.specs.Metamodel.{Conforms, IsConcrete, IsMeta, IsSound, attributes_of, default_of, default_of_kind, feature_at, features_of, fits, is_of_type, target_of, type_of, type_of_kind}
-use Rattle.hs_types.specs.Pattern.{is_drop, is_left, is_make, left_nodes, made_edges, made_nodes, node_is}
-use Rattle.hs_types.specs.Plan.{CanBeMade, EndIs, SlotFits, behind, copy_edges, copy_end, copy_objects, copy_writes, edges_for, end_of, made_slots, objects_for, plan_of, value_set, writes_of}
-use Rattle.hs_types.specs.PlainMatch.{Extends, IsPlain, image, kernel_of}
-use Rattle.hs_types.specs.RuleForm.{EdgeFits, EndFits, IsMulti, IsRule, NodeFits, joins}
+use Rattle.hs_types.specs.Pattern.{is_drop, is_left, is_make, made_edges, made_nodes, node_is}
+use Rattle.hs_types.specs.Plan.{CanBeMade, EndIs, SlotFits, copy_edges, copy_end, copy_objects, copy_writes, edges_for, end_of, made_slots, objects_for, plan_of, value_set, writes_of}
+use Rattle.hs_types.specs.PlainMatch.{image, kernel_of}
+use Rattle.hs_types.specs.RuleForm.{EdgeFits, EndFits, IsRule, NodeFits, joins}
 use Rattle.hs_types.specs.Step.{step}
-use Rattle.hs_types.specs.TypedGraph.{AreSlotsOf, IsOf, IsTyped, Stands}
-use Rattle.hs_types.specs.ValidMatch.{IsValid, all_dropped_nodes}
+use Rattle.hs_types.specs.TypedGraph.{AreSlotsOf, IsTyped}
+use Rattle.hs_types.specs.ValidMatch.{IsValid}
 use Rattle.hs_laws.proofs.Classes.{GoesDown, Stands-down, conforms-down, feature-down}
-use Rattle.hs_laws.proofs.Images.{FitsNode, image-at, image-behind, joined}
-use Rattle.hs_laws.proofs.Lists.{All-both, All-filter_map, All-find, All-flat_map, All-kept, All-rest_of, find-passes, map-append, slice_get-append, slice_get-behind, slice_get-first, slice_get-last}
+use Rattle.hs_laws.proofs.Images.{FitsNode, image-at, joined}
+use Rattle.hs_laws.proofs.Lists.{All-both, All-filter_map, All-find, All-flat_map, All-kept, find-passes, slice_get-append, slice_get-behind, slice_get-first, slice_get-last}
 use Rattle.hs_laws.proofs.Staying.{CopyIs, CopyStays, copies_are, copies_stay, kernel_stays}
 use Rattle.hs_laws.proofs.Typed.{Carries, IsTyped-step}
 
@@ -53,14 +51,19 @@ writes_fit m env nodes images sets h = All-filter_map W write (filter q sets) (A
   where
     W : Write → Type 0
     W w = SlotFits m w.slot w.value
+
     q : SetItem → Bool
     q item = not (node_is is_make nodes item.node)
+
     made : SetItem → Value → Write
     made item v = record { object = image nodes images item.node; slot = Attribute item.attribute; value = v }
+
     write : SetItem → Option Write
     write item = option_map (made item) (value_of env item.value)
+
     F : SetItem → Type 0
     F item = IsSomeAnd (value_of env item.value) (λ v. fits m item.attribute v ≡ true)
+
     go : (item : SetItem) (o : Option Value) → value_of env item.value ≡ o → IsSomeAnd o (λ v. fits m item.attribute v ≡ true) → (w : Write) → option_map (made item) o ≡ Some w → W w
     go item None e i w s = absurd i
     go item (Some v) e i w s = let same : made item v ≡ w = cc in subst W same i
@@ -72,6 +75,7 @@ default-fits m a w h = go (feature_at m a) refl h
     of_kind : (k : FeatureKind) → IsSome (type_of_kind k) → IsSound m k → IsSomeAnd (default_of_kind k) (λ v. unwrap_or (option_map (λ t. is_of_type t v) (type_of_kind k)) false ≡ true)
     of_kind (feature.Attribute t v) h s = s
     of_kind (feature.Reference target containment lower upper) h s = absurd (both_ways false refl h)
+
     go : (o : Option Feature) → feature_at m a ≡ o → IsSome (option_and_then (λ f. type_of_kind f.kind) o) → IsSomeAnd (option_and_then (λ f. default_of_kind f.kind) o) (λ v. fits m a v ≡ true)
     go None e h = absurd (both_ways false refl h)
     go (Some f) e h = rw e (of_kind f.kind h (sound m.features a f w.features_sound e))
@@ -87,11 +91,14 @@ slot-fits m env sets n a w f h = go (find q sets) refl
   where
     q : SetItem → Bool
     q item = eqb item.node n && eqb item.attribute a
+
     F : SetItem → Type 0
     F item = IsSomeAnd (value_of env item.value) (λ v. fits m item.attribute v ≡ true)
+
     chosen : (o : Option Value) → IsSomeAnd o (λ v. fits m a v ≡ true) → IsSomeAnd (option_or o (default_of m a)) (λ v. fits m a v ≡ true)
     chosen None i = absurd i
     chosen (Some v) i = i
+
     go : (o : Option SetItem) → find q sets ≡ o → IsSomeAnd (option_or (option_and_then (λ item. value_of env item.value) o) (default_of m a)) (λ v. fits m a v ≡ true)
     go None e = default-fits m a w h
     go (Some item) e =
@@ -104,20 +111,27 @@ made_slots-fit m env sets n class w f c = (c, named (attributes_of m class) type
   where
     T : ℕ → Type 0
     T a = IsSome (type_of m a)
+
     typed : All T (attributes_of m class)
     typed = filter_passes (λ a. is_some (type_of m a)) (features_of m class)
+
     V : Slot → Type 0
     V s = fits m s.attribute s.value ≡ true
+
     with_value : ℕ → Value → Slot
     with_value a v = record { attribute = a; value = v }
+
     slot : ℕ → Option Slot
     slot a = option_map (with_value a) (option_or (value_set env sets n a) (default_of m a))
+
     value : (a : ℕ) (o : Option Value) → IsSomeAnd o (λ v. fits m a v ≡ true) → (s : Slot) → option_map (with_value a) o ≡ Some s → V s
     value a None i s e = absurd i
     value a (Some v) i s e = let same : with_value a v ≡ s = cc in subst V same i
+
     first : (a : ℕ) (rest : List Slot) (o : Option Value) → IsSomeAnd o (λ v. fits m a v ≡ true) → map (λ s. s.attribute) (cons_option (option_map (with_value a) o) rest) ≡ a ∷ map (λ s. s.attribute) rest
     first a rest None i = absurd i
     first a rest (Some v) i = refl
+
     named : (as' : List ℕ) → All T as' → map (λ s. s.attribute) (filter_map slot as') ≡ as'
     named [] t = refl
     named (a ∷ as') t = first a (filter_map slot as') (option_or (value_set env sets n a) (default_of m a)) (slot-fits m env sets n a w f (All-head T a as' t)) ∙ ap (λ (l : List ℕ). a ∷ l) (named as' (All-tail T a as' t))
@@ -168,16 +182,18 @@ kernel_end m g rule args f P n w v down s = go (slice_get rule.shape.nodes n) re
   where
     nodes : List PatternNode
     nodes = rule.shape.nodes
+
     plan : Plan
     plan = plan_of m g rule args f
+
     go : (o : Option PatternNode) → slice_get nodes n ≡ o → IsSomeAnd o (λ node. (joins Make node.mark ≡ true) × P node.class) → EndIs g plan P (end_of nodes f.nodes n)
     go None e s = absurd s
     go (Some x) e s = elim (cases_Bool (is_make x.mark)) [
       | inl d ↦ let made : node_is is_make nodes n ≡ true = rw e d in
-        rw made (slice_get-append (λ o. P o.class) (objects_for m (env_of g rule args nodes f.nodes) rule.sets 0 nodes) (flat_map (copy_objects m g rule args (kernel_of f)) (copies_of rule f)) (length (made_nodes (take n nodes))) (made_at m (env_of g rule args nodes f.nodes) rule.sets 0 nodes n x P e d s.1))
+          rw made (slice_get-append (λ o. P o.class) (objects_for m (env_of g rule args nodes f.nodes) rule.sets 0 nodes) (flat_map (copy_objects m g rule args (kernel_of f)) (copies_of rule f)) (length (made_nodes (take n nodes))) (made_at m (env_of g rule args nodes f.nodes) rule.sets 0 nodes n x P e d s.1))
       | inr d ↦ let made : node_is is_make nodes n ≡ false = rw e d in
-        let left : is_left x.mark ≡ true = left_or_made x.mark d in
-        rw made (Stands-down m g P x.class (image nodes f.nodes n) down s.1 (image-at (FitsNode m g) nodes f.nodes n x v.plain.nodes_fit e left), kernel_stays m g rule args f w v n x e left (not_dropped x.mark s.0))
+          let left : is_left x.mark ≡ true = left_or_made x.mark d in
+          rw made (Stands-down m g P x.class (image nodes f.nodes n) down s.1 (image-at (FitsNode m g) nodes f.nodes n x v.plain.nodes_fit e left), kernel_stays m g rule args f w v n x e left (not_dropped x.mark s.0))
     ]
 
 -- An end of an edge that a copy makes, in a plan that makes the objects of the kernel, of the copies before it, and of this one.
@@ -188,42 +204,51 @@ copy_end-fits m g rule args f copy front rest P n w v is stays objects down s = 
   where
     kernel : List PatternNode
     kernel = rule.shape.nodes
+
     own : List PatternNode
     own = copy.multi.shape.nodes
+
     nodes : List PatternNode
     nodes = kernel ++ own
+
     images : List ℕ
     images = f.nodes ++ copy.found.nodes
+
     plan : Plan
     plan = plan_of m g rule args f
+
     env : Env
     env = env_of g rule args kernel f.nodes
+
     made : List MadeObject
     made = copy_objects m g rule args (kernel_of f) copy
+
     K : List MadeObject
     K = objects_for m env rule.sets 0 kernel
+
     Q : MadeObject → Type 0
     Q o = P o.class
+
     go : (o : Option PatternNode) → slice_get nodes n ≡ o → IsSomeAnd o (λ node. (joins Make node.mark ≡ true) × P node.class) → EndIs g plan P (copy_end rule (kernel_of f) (length front) copy n)
     go None e s = absurd s
     go (Some x) e s = elim (cases_Bool (ltb n (length kernel))) [
       | inl l ↦ let e' : slice_get kernel n ≡ Some x = sym (slice_get-first kernel own n (ltb-true n (length kernel) l)) ∙ e in
-        let s' : EndFits (joins Make) kernel P n = rw e' s in
-        rw l (kernel_end m g rule args f P n w v down s')
+          let s' : EndFits (joins Make) kernel P n = rw e' s in
+          rw l (kernel_end m g rule args f P n w v down s')
       | inr l ↦ let more : length kernel ≤ n = ltb-false n (length kernel) l in
-        let e' : slice_get own (n - length kernel) ≡ Some x = sym (slice_get-last kernel own n more) ∙ e in
-        rw l (elim (cases_Bool (is_make x.mark)) [
-          | inl d ↦ let is_made : node_is is_make nodes n ≡ true = rw e d in
-            let i : ℕ = length (made_nodes (take (n - length kernel) own)) in
-            let here : IsSomeAnd (slice_get made i) Q = made_at m (copy_env g rule args (kernel_of f) copy) copy.multi.sets (length kernel) own (n - length kernel) x P e' d s.1 in
-            let a : IsSomeAnd (slice_get (front ++ (made ++ rest)) (length front + i)) Q = slice_get-behind Q front (made ++ rest) i (length front + i) refl (slice_get-append Q made rest i here) in
-            let k : ℕ = length (made_nodes (take n nodes)) + length front in
-            let at : k ≡ length K + (length front + i) = omega (arith, made_before kernel own n more, objects_for-length m env rule.sets 0 kernel) in
-            rw (is_made, objects) (slice_get-behind Q K (front ++ (made ++ rest)) (length front + i) k at a)
-          | inr d ↦ let is_made : node_is is_make nodes n ≡ false = rw e d in
-            let left : is_left x.mark ≡ true = left_or_made x.mark d in
-            rw is_made (Stands-down m g P x.class (image nodes images n) down s.1 (image-at (FitsNode m g) nodes images n x (joined m g rule.shape (kernel_of f) copy.multi.shape copy.found v.plain is.extends.0) e left), stays n x more e left (not_dropped x.mark s.0))
-        ])
+          let e' : slice_get own (n - length kernel) ≡ Some x = sym (slice_get-last kernel own n more) ∙ e in
+          rw l (elim (cases_Bool (is_make x.mark)) [
+            | inl d ↦ let is_made : node_is is_make nodes n ≡ true = rw e d in
+                let i : ℕ = length (made_nodes (take (n - length kernel) own)) in
+                let here : IsSomeAnd (slice_get made i) Q = made_at m (copy_env g rule args (kernel_of f) copy) copy.multi.sets (length kernel) own (n - length kernel) x P e' d s.1 in
+                let a : IsSomeAnd (slice_get (front ++ (made ++ rest)) (length front + i)) Q = slice_get-behind Q front (made ++ rest) i (length front + i) refl (slice_get-append Q made rest i here) in
+                let k : ℕ = length (made_nodes (take n nodes)) + length front in
+                let at : k ≡ length K + (length front + i) = omega (arith, made_before kernel own n more, objects_for-length m env rule.sets 0 kernel) in
+                rw (is_made, objects) (slice_get-behind Q K (front ++ (made ++ rest)) (length front + i) k at a)
+            | inr d ↦ let is_made : node_is is_make nodes n ≡ false = rw e d in
+                let left : is_left x.mark ≡ true = left_or_made x.mark d in
+                rw is_made (Stands-down m g P x.class (image nodes images n) down s.1 (image-at (FitsNode m g) nodes images n x (joined m g rule.shape (kernel_of f) copy.multi.shape copy.found v.plain is.extends.0) e left), stays n x more e left (not_dropped x.mark s.0))
+          ])
     ]
 
 -- Edges that are made can be made where their ends can.
@@ -232,13 +257,16 @@ edges_for-fit m g plan nodes end edges w ends a = All-map (CanBeMade m g plan) m
   where
     made : PatternEdge → MadeEdge
     made edge = record { source = end edge.source; reference = edge.reference; target = end edge.target }
+
     joins_make : (k : Mark) → is_make k ≡ true → k ≡ Make
     joins_make Keep h = absurd (both_ways false refl h)
     joins_make Drop h = absurd (both_ways false refl h)
     joins_make Make h = refl
+
     target : (edge : PatternEdge) (o : Option ℕ) → IsSomeAnd o (λ class. EndFits (joins Make) nodes (λ c. Conforms m c class) edge.target) → IsSomeAnd o (λ class. EndIs g plan (λ c. Conforms m c class) (end edge.target))
     target edge None h = h
     target edge (Some class) h = ends (λ c. Conforms m c class) edge.target (conforms-down m class) h
+
     each : (edge : PatternEdge) → is_make edge.mark ≡ true → EdgeFits m (joins edge.mark) nodes edge → CanBeMade m g plan (made edge)
     each edge k h = let h' : EdgeFits m (joins Make) nodes edge = subst (λ (b : Mark). EdgeFits m (joins b) nodes edge) (joins_make edge.mark k) h in
         (ends (λ c. has (features_of m c) edge.reference ≡ true) edge.source (feature-down m edge.reference w) h'.0, target edge (target_of m edge.reference) h'.1)
@@ -256,42 +284,55 @@ copy_edges-fit m g rule args f done (copy ∷ copies) d w v a e = All-append (Ca
   where
     k : Extension
     k = kernel_of f
+
     plan : Plan
     plan = plan_of m g rule args f
+
     objects : Copy → List MadeObject
     objects = copy_objects m g rule args k
+
     front : List MadeObject
     front = flat_map objects done
+
     here : CopyIs m g rule args k copy × CopyStays rule f copy
     here = All-head (λ copy. CopyIs m g rule args k copy × CopyStays rule f copy) copy copies a
+
     count : length (flat_map objects (done ++ copy ∷ [])) ≡ length front + length (made_nodes copy.multi.shape.nodes)
     count = ap length (flat_map-append objects done (copy ∷ [])) ∙ (length-append front (objects copy ++ []) ∙ ap (λ (i : ℕ). length front + i) (ap length (append-nil (objects copy)) ∙ objects_for-length m (copy_env g rule args k copy) copy.multi.sets (length rule.shape.nodes) copy.multi.shape.nodes))
+
     all : plan.make_objects ≡ objects_for m (env_of g rule args rule.shape.nodes f.nodes) rule.sets 0 rule.shape.nodes ++ (front ++ (objects copy ++ flat_map objects copies))
     all = ap (λ (l : List MadeObject). objects_for m (env_of g rule args rule.shape.nodes f.nodes) rule.sets 0 rule.shape.nodes ++ l) (ap (flat_map objects) e ∙ flat_map-append objects done (copy ∷ copies))
 
 -- What a valid match plans carries the graph on.
 pub plan-carries : (m : Meta) (g : Graph) (rule : Rule) (args : Args) (f : Match) → IsMeta m → IsRule m rule → IsValid m g rule args f → Carries m g (plan_of m g rule args f)
 plan-carries m g rule args f d w v = record {
-    none_dangle = v.none_dangle;
-    values_fit = All-append W (writes_of env nodes f.nodes rule.sets) (flat_map (copy_writes g rule args k) copies) (writes_fit m env nodes f.nodes rule.sets v.sets_fit) (All-flat_map W (copy_writes g rule args k) copies (All-weaker (CopyIs m g rule args k) (λ copy. All W (copy_writes g rule args k copy)) (λ copy i. writes_fit m (copy_env g rule args k copy) (nodes_of rule copy.multi) (images_of k copy.found) copy.multi.sets i.sets_fit) copies are));
-    objects_fit = All-append O (objects_for m env rule.sets 0 nodes) (flat_map (copy_objects m g rule args k) copies) (objects_for-fit m env rule.sets 0 nodes d v.sets_fit w.kernel.nodes_fit) (All-flat_map O (copy_objects m g rule args k) copies (All-weaker (CopyIs m g rule args k) (λ copy. All O (copy_objects m g rule args k copy)) (λ copy i. objects_for-fit m (copy_env g rule args k copy) copy.multi.sets (length nodes) copy.multi.shape.nodes d i.sets_fit i.multi.nodes_fit) copies are));
-    edges_fit = All-append (CanBeMade m g plan) (edges_for (end_of nodes f.nodes) rule.shape.edges) (copy_edges rule k 0 copies) (edges_for-fit m g plan nodes (end_of nodes f.nodes) rule.shape.edges d (λ P n down s. kernel_end m g rule args f P n w v down s) w.kernel.edges_fit) (copy_edges-fit m g rule args f [] copies d w v (All-both (CopyIs m g rule args k) (CopyStays rule f) copies are (copies_stay m g rule args f w v)) refl);
-  }
+  none_dangle = v.none_dangle;
+  values_fit = All-append W (writes_of env nodes f.nodes rule.sets) (flat_map (copy_writes g rule args k) copies) (writes_fit m env nodes f.nodes rule.sets v.sets_fit) (All-flat_map W (copy_writes g rule args k) copies (All-weaker (CopyIs m g rule args k) (λ copy. All W (copy_writes g rule args k copy)) (λ copy i. writes_fit m (copy_env g rule args k copy) (nodes_of rule copy.multi) (images_of k copy.found) copy.multi.sets i.sets_fit) copies are));
+  objects_fit = All-append O (objects_for m env rule.sets 0 nodes) (flat_map (copy_objects m g rule args k) copies) (objects_for-fit m env rule.sets 0 nodes d v.sets_fit w.kernel.nodes_fit) (All-flat_map O (copy_objects m g rule args k) copies (All-weaker (CopyIs m g rule args k) (λ copy. All O (copy_objects m g rule args k copy)) (λ copy i. objects_for-fit m (copy_env g rule args k copy) copy.multi.sets (length nodes) copy.multi.shape.nodes d i.sets_fit i.multi.nodes_fit) copies are));
+  edges_fit = All-append (CanBeMade m g plan) (edges_for (end_of nodes f.nodes) rule.shape.edges) (copy_edges rule k 0 copies) (edges_for-fit m g plan nodes (end_of nodes f.nodes) rule.shape.edges d (λ P n down s. kernel_end m g rule args f P n w v down s) w.kernel.edges_fit) (copy_edges-fit m g rule args f [] copies d w v (All-both (CopyIs m g rule args k) (CopyStays rule f) copies are (copies_stay m g rule args f w v)) refl);
+}
   where
     k : Extension
     k = kernel_of f
+
     plan : Plan
     plan = plan_of m g rule args f
+
     nodes : List PatternNode
     nodes = rule.shape.nodes
+
     env : Env
     env = env_of g rule args nodes f.nodes
+
     copies : List Copy
     copies = copies_of rule f
+
     are : All (CopyIs m g rule args k) copies
     are = copies_are m g rule args f w v
+
     W : Write → Type 0
     W write = SlotFits m write.slot write.value
+
     O : MadeObject → Type 0
     O o = AreSlotsOf m o.class o.slots
 

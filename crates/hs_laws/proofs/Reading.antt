@@ -1,10 +1,10 @@
 -- The slots that a rule's expressions read are slots of its left side.
-use Rattle.std.proofs.Common.{ℕ, suc, zero, ◌+◌, ◌<◌, ◌≤◌, ◌≡◌, ◌⊎◌, inl, inr, List, [], ◌∷◌, ◌++◌, map, length, Bool, true, false, cond, not, ◌||◌, ◌&&◌, eqb, ltb, Option, Some, None, IsSomeAnd, IsSome, slice_get, refl, sym, ap, ◌∙◌, subst, arith, rules}
-use Rattle.std.specs.List.{All, filter, flat_map}
+use Rattle.std.proofs.Common.{ℕ, suc, zero, ◌<◌, ◌≤◌, ◌≡◌, ◌⊎◌, inl, inr, List, [], ◌∷◌, ◌++◌, length, Bool, true, false, cond, not, ◌&&◌, ltb, Option, Some, None, IsSomeAnd, IsSome, slice_get, refl, sym, ap, ◌∙◌, subst, arith}
+use Rattle.std.specs.List.{All, flat_map}
 use Rattle.std.specs.Option.{option_and_then, option_map, is_some}
-use Rattle.std.proofs.lemmas.Bool.{cases_Bool, both_ways, and_parts, lt-ltb, ltb-false, cases_lt}
-use Rattle.std.proofs.lemmas.List.Elements.{All-nil, All-cons, All-head, All-tail, All-append, All-weaker, All-filter, filter_passes}
-use Rattle.hs_expr.specs.declared.expr.Expr.{Expr, fold-Expr, ind-Expr, map-Expr, roll-Expr, fold-roll-Expr}
+use Rattle.std.proofs.lemmas.Bool.{cases_Bool, both_ways, and_parts, lt-ltb, cases_lt}
+use Rattle.std.proofs.lemmas.List.Elements.{All-nil, All-cons, All-append, All-weaker, filter_passes}
+use Rattle.hs_expr.specs.declared.expr.Expr.{Expr, ind-Expr, map-Expr, roll-Expr, fold-roll-Expr}
 use Rattle.hs_expr.specs.declared.expr.Expr.TheOpen.{Expr-F}
 use Rattle.hs_expr.specs.declared.expr.SlotRead.{SlotRead}
 use Rattle.hs_expr.specs.declared.value.Kind.{Kind}
@@ -21,7 +21,7 @@ use Rattle.hs_types.specs.declared.rule.SlotKind.TheVariants.{Attribute}
 use Rattle.hs_types.specs.Lists.{has}
 use Rattle.hs_types.specs.Metamodel.{attributes_of, features_of, kind_of_type, type_of}
 use Rattle.hs_types.specs.Pattern.{is_drop, is_left, node_is}
-use Rattle.hs_types.specs.RuleForm.{IsBlock, IsMulti, IsRule, SetFits, all_reads, has_slot, kernel_reads, reads_in, scope_of, slot_kind}
+use Rattle.hs_types.specs.RuleForm.{IsMulti, IsRule, SetFits, all_reads, has_slot, reads_in, scope_of, slot_kind}
 use Rattle.hs_laws.proofs.Images.{IsLeft}
 use Rattle.hs_laws.proofs.Lists.{All-flat_map, All-of_flat_map, All-both, All-front, All-rest_of, All-has, All-of_filter, slice_get-first}
 
@@ -36,10 +36,13 @@ kinds-read scope = ind-Expr P (λ x y h. subst (λ (x : Expr-F Expr). P (roll-Ex
   where
     R : SlotRead → Type 0
     R read = IsSome (scope.slot read.node read.attribute)
+
     P : Expr → Type 0
     P expr = (k : Kind) → kind_in scope expr ≡ Some k → All R (reads_of expr)
+
     from : (x : Expr-F Expr) → ((k : Kind) → kind_of_level scope (map-Expr Expr (Option Kind) (kind_in scope) x) ≡ Some k → All R (reads_of_level (map-Expr Expr (List SlotRead) reads_of x))) → P (roll-Expr x)
     from x f k h = subst (All R) (sym (fold-roll-Expr (List SlotRead) reads_of_level x)) (f k (sym (fold-roll-Expr (Option Kind) (kind_of_level scope) x) ∙ h))
+
     go : (y : Expr-F ((e : Expr) × P e)) → P (roll-Expr (map-Expr ((e : Expr) × P e) Expr (λ e. e.0) y))
     go (Expr-F.Literal v) = from (Expr-F.Literal v) (λ k h. All-nil R)
     go (Expr-F.Slot read) = from (Expr-F.Slot read) (λ k h. All-cons R read [] (ap is_some h) (All-nil R))
@@ -70,8 +73,10 @@ block_left m rule nodes wheres sets a b = All-append L (flat_map reads_of wheres
   where
     L : SlotRead → Type 0
     L read = IsLeft nodes read.node
+
     lefts : (expr : Expr) (k : Kind) → kind_in (scope_of m rule nodes) expr ≡ Some k → All L (reads_of expr)
     lefts expr k h = All-weaker (λ read. IsSome (slot_kind m nodes read.node read.attribute)) L (λ read i. slot_kind-left m nodes read.node read.attribute i) (reads_of expr) (kinds-read (scope_of m rule nodes) expr k h)
+
     known : (expr : Expr) (o : Option Kind) → kind_in (scope_of m rule nodes) expr ≡ o → IsSome o → All L (reads_of expr)
     known expr None e h = absurd (both_ways false refl h)
     known expr (Some k) e h = lefts expr k e
@@ -87,6 +92,7 @@ set-kind m scope nodes item s = rw s.1 (mapped (type_of m item.attribute) (go (s
     mapped : (o : Option DataType) → IsSome o → IsSome (option_map kind_of_type o)
     mapped None h = absurd (both_ways false refl h)
     mapped (Some d) h = refl
+
     go : (o : Option PatternNode) → IsSomeAnd o (λ node. (not (is_drop node.mark) ≡ true) × (has (attributes_of m node.class) item.attribute ≡ true)) → IsSome (type_of m item.attribute)
     go None h = absurd h
     go (Some node) h = attribute-typed m node.class item.attribute h.1
@@ -115,6 +121,7 @@ kernel_slots m rule w = All-weaker (λ read. q read ≡ true → 0 ≤ read.node
   where
     q : SlotRead → Bool
     q read = ltb read.node (length rule.shape.nodes)
+
     S : SlotRead → Type 0
     S read = has_slot rule.shape.slots read.node (Attribute read.attribute) ≡ true
 
@@ -123,12 +130,16 @@ kernel_read m rule w = All-weaker (λ read. L read × H read) (ReadsKernel rule)
   where
     L : SlotRead → Type 0
     L read = IsLeft rule.shape.nodes read.node
+
     S : SlotRead → Type 0
     S read = has_slot rule.shape.slots read.node (Attribute read.attribute) ≡ true
+
     H : SlotRead → Type 0
     H read = read.node < length rule.shape.nodes → S read
+
     lefts : All L (reads_in rule.wheres rule.sets)
     lefts = block_left m rule rule.shape.nodes rule.wheres rule.sets w.kernel.wheres_fit (All-weaker (λ item. (0 ≤ item.node) × SetFits m (scope_of m rule rule.shape.nodes) rule.shape.nodes item) (λ item. IsSome (kind_in (scope_of m rule rule.shape.nodes) item.value)) (λ item h. set-kind m (scope_of m rule rule.shape.nodes) rule.shape.nodes item h.1) rule.sets w.kernel.sets_fit)
+
     slots : All H (all_reads rule)
     slots = kernel_slots m rule w
 
@@ -144,7 +155,10 @@ multi_read m rule w = All-weaker (λ multi. IsMulti m rule multi × All (KernelS
         let L : SlotRead → Type 0 = λ read. IsLeft nodes read.node in
         let O : SlotRead → Type 0 = λ read. first ≤ read.node → has_slot multi.shape.slots read.node (Attribute read.attribute) ≡ true in
         let lefts : All L reads = block_left m rule nodes multi.wheres multi.sets b.wheres_fit (All-weaker (λ item. (first ≤ item.node) × SetFits m (scope_of m rule nodes) nodes item) (λ item. IsSome (kind_in (scope_of m rule nodes) item.value)) (λ item h. set-kind m (scope_of m rule nodes) nodes item h.1) multi.sets b.sets_fit) in
-        All-weaker (λ read. L read × (KernelSlot rule read × O read)) (ReadsMulti rule multi) (λ read h. (h.0, elim (cases_lt read.node first) [
-          | inl l ↦ inl (node_is-first is_left rule.shape.nodes multi.shape.nodes read.node l h.0, h.1.0 l)
-          | inr l ↦ inr (h.1.1 l)
-        ])) reads (All-both L (λ read. KernelSlot rule read × O read) reads lefts (All-both (KernelSlot rule) O reads slots b.slots.all_read))
+        All-weaker (λ read. L read × (KernelSlot rule read × O read)) (ReadsMulti rule multi) (λ read h. (
+          h.0,
+          elim (cases_lt read.node first) [
+            | inl l ↦ inl (node_is-first is_left rule.shape.nodes multi.shape.nodes read.node l h.0, h.1.0 l)
+            | inr l ↦ inr (h.1.1 l)
+          ],
+        )) reads (All-both L (λ read. KernelSlot rule read × O read) reads lefts (All-both (KernelSlot rule) O reads slots b.slots.all_read))

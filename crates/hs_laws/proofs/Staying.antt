@@ -1,8 +1,7 @@
 -- What a valid match keeps is not dropped by any part of it.
-use Rattle.std.proofs.Common.{ℕ, suc, zero, ◌+◌, ◌-◌, ◌<◌, ◌≤◌, ◌≡◌, ◌⊎◌, inl, inr, List, [], ◌∷◌, ◌++◌, map, length, Bool, true, false, cond, not, eqb, Option, Some, None, IsSomeAnd, slice_get, refl, sym, ap, ◌∙◌, subst, arith, rules}
-use Rattle.std.specs.List.{All, AllZip, flat_map}
-use Rattle.std.proofs.lemmas.Bool.{both_ways}
-use Rattle.std.proofs.lemmas.List.Elements.{All-nil, All-cons, All-head, All-tail, All-weaker}
+use Rattle.std.proofs.Common.{ℕ, ◌-◌, ◌≤◌, ◌≡◌, List, [], ◌∷◌, ◌++◌, length, true, false, Some, slice_get, sym, ◌∙◌, subst}
+use Rattle.std.specs.List.{All, flat_map}
+use Rattle.std.proofs.lemmas.List.Elements.{All-nil, All-cons, All-weaker}
 use Rattle.hs_types.specs.declared.graph.Graph.{Graph}
 use Rattle.hs_types.specs.declared.matching.Extension.{Extension}
 use Rattle.hs_types.specs.declared.matching.Match.{Match}
@@ -11,15 +10,14 @@ use Rattle.hs_types.specs.declared.request.Args.{Args}
 use Rattle.hs_types.specs.declared.rule.PatternNode.{PatternNode}
 use Rattle.hs_types.specs.declared.rule.Rule.{Rule}
 use Rattle.hs_types.specs.Conditions.{AreFit}
-use Rattle.hs_types.specs.Copies.{Copy, IsCopy, NoneTouch, SparesCopy, copies_of, copy_env}
+use Rattle.hs_types.specs.Copies.{Copy, IsCopy, SparesCopy, copies_of, copy_env}
 use Rattle.hs_types.specs.Dangling.{dropped_nodes}
-use Rattle.hs_types.specs.Lists.{has, Apart, Differ, EachPair}
+use Rattle.hs_types.specs.Lists.{has, EachPair}
 use Rattle.hs_types.specs.Pattern.{is_drop, is_left, left_nodes}
-use Rattle.hs_types.specs.PlainMatch.{Extends, IsPlain, image, kernel_of}
+use Rattle.hs_types.specs.PlainMatch.{Extends, image, kernel_of}
 use Rattle.hs_types.specs.RuleForm.{IsMulti, IsRule}
-use Rattle.hs_types.specs.TypedGraph.{IsOf}
 use Rattle.hs_types.specs.ValidMatch.{IsValid, all_dropped_nodes}
-use Rattle.hs_laws.proofs.Images.{FitsNode, IsLeft-from, image-among, image-at, image-behind, image-stays}
+use Rattle.hs_laws.proofs.Images.{FitsNode, IsLeft-from, image-among, image-behind, image-stays}
 use Rattle.hs_laws.proofs.Lists.{All-both, Apart-other_way, Differ-across, Differ-across_back, EachPair-rest, beside-has, has-flat_map_none, has-neither, has_not, slice_get-last}
 use Rattle.hs_laws.proofs.Spared.{copies_each}
 

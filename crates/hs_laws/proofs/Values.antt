@@ -1,9 +1,9 @@
 -- Values of expressions.
-use Rattle.std.proofs.Common.{ℕ, ◌≡◌, List, [], ◌∷◌, ◌++◌, Option, refl, sym, ap, ◌∙◌, subst}
+use Rattle.std.proofs.Common.{ℕ, ◌≡◌, List, [], Option, refl, sym, ap, ◌∙◌, subst}
 use Rattle.std.specs.List.{All}
 use Rattle.std.specs.Option.{option_and_then}
-use Rattle.std.proofs.lemmas.List.Elements.{All-nil, All-cons, All-head}
-use Rattle.hs_expr.specs.declared.expr.Expr.{Expr, fold-Expr, ind-Expr, map-Expr, roll-Expr, fold-roll-Expr}
+use Rattle.std.proofs.lemmas.List.Elements.{All-head}
+use Rattle.hs_expr.specs.declared.expr.Expr.{Expr, ind-Expr, map-Expr, roll-Expr, fold-roll-Expr}
 use Rattle.hs_expr.specs.declared.expr.Expr.TheOpen.{Expr-F}
 use Rattle.hs_expr.specs.declared.expr.SlotRead.{SlotRead}
 use Rattle.hs_expr.specs.declared.value.Value.{Value}
@@ -20,12 +20,16 @@ value_of-same a b params = ind-Expr P (λ x y h. subst (λ (x : Expr-F Expr). P 
   where
     P : Expr → Type 0
     P expr = Agree a b (reads_of expr) → value_of a expr ≡ value_of b expr
+
     value_roll : (env : Env) (x : Expr-F Expr) → value_of env (roll-Expr x) ≡ level env (map-Expr Expr (Option Value) (value_of env) x)
     value_roll env x = fold-roll-Expr (Option Value) (level env) x
+
     reads_roll : (x : Expr-F Expr) → reads_of (roll-Expr x) ≡ reads_of_level (map-Expr Expr (List SlotRead) reads_of x)
     reads_roll x = fold-roll-Expr (List SlotRead) reads_of_level x
+
     from : (x : Expr-F Expr) → (Agree a b (reads_of_level (map-Expr Expr (List SlotRead) reads_of x)) → level a (map-Expr Expr (Option Value) (value_of a) x) ≡ level b (map-Expr Expr (Option Value) (value_of b) x)) → P (roll-Expr x)
     from x f k = value_roll a x ∙ (f (subst (Agree a b) (reads_roll x) k) ∙ sym (value_roll b x))
+
     go : (y : Expr-F ((e : Expr) × P e)) → P (roll-Expr (map-Expr ((e : Expr) × P e) Expr (λ e. e.0) y))
     go (Expr-F.Literal v) = from (Expr-F.Literal v) (λ k. refl)
     go (Expr-F.Slot read) = from (Expr-F.Slot read) (λ k. All-head (λ read. a.slot read.node read.attribute ≡ b.slot read.node read.attribute) read [] k)
