@@ -318,3 +318,6 @@ Differ-across_back ms ns n d h = false_from_ne_true (has ms n) (λ k. both_ways 
 -- Some of the numbers are none of those that all of them are apart from.
 pub has_not : (ms ns : List ℕ) (n : ℕ) → ((k : ℕ) → has ms k ≡ true → has ns k ≡ true) → has ns n ≡ false → has ms n ≡ false
 has_not ms ns n f h = false_from_ne_true (has ms n) (λ k. both_ways (has ns n) h (f n k))
+
+pub below_differs : (m n : ℕ) → m < n → m ≡ n → ⊥
+below_differs m n l e = absurd (omega arith)

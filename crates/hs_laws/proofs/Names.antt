@@ -73,3 +73,12 @@ names-differ old n next os d below = EachPair-append (λ x y. x ≡ y → ⊥) o
 
 pub names-below : (n next : ℕ) (os : List MadeObject) → All (λ o. (k : ℕ) → o.name ≡ hash_name k → k < next + length os) (new_objects n next os)
 names-below n next os = All-weaker (λ o. IsNew next (next + length os) o.name) (λ o. (k : ℕ) → o.name ≡ hash_name k → k < next + length os) (λ o j k e. let same : j.0 ≡ k = hash_name-same j.0 k (sym j.3 ∙ e) in omega (arith, j.2)) (new_objects n next os) (names_new n next os)
+
+-- No number's name has a zero in front of further digits.
+pub no_leading_zero : (k d : ℕ) (rest : List ℕ) → hash_name k ≡ 35 ∷ 48 ∷ d ∷ rest → ⊥
+no_leading_zero zero d rest e = absurd (cc)
+no_leading_zero (suc k) d rest e = go (digits_of 10 (suc k)) refl (ap tail_of e)
+  where
+    go : (ds : List ℕ) → digits_of 10 (suc k) ≡ ds → map (λ d. 48 + d) ds ≡ 48 ∷ d ∷ rest → ⊥
+    go [] f e = absurd (cc)
+    go (x ∷ xs) f e = let h : 48 + x ≡ 48 = cc in let first : 0 < get_or (digits_of 10 (suc k)) 0 0 = first_digits_of 10 (suc k) (omega arith) (omega arith) in let above : 0 < x = rw f at first in omega arith

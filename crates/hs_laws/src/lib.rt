@@ -6,12 +6,14 @@
 #![tactic(auto)]
 
 mod conformance;
+mod examples;
 mod journals;
 mod order;
 mod sparing;
 mod steps;
 
 pub use conformance::conformance_is_an_order;
+pub use examples::{dangling, expressions, graphs, metamodels, orders, plain_matches};
 pub use journals::{
     journals_go_on, journals_stay_lawful, lawful_or_not, missed_attempts_change_nothing,
 };
