@@ -321,3 +321,10 @@ has_not ms ns n f h = false_from_ne_true (has ms n) (λ k. both_ways (has ns n) 
 
 pub below_differs : (m n : ℕ) → m < n → m ≡ n → ⊥
 below_differs m n l e = absurd (omega arith)
+
+-- What holds of one item, or of two, holds of the list of them.
+pub All-one : {A : Type 0} (P : A → Type 0) (x : A) → P x → All P (x ∷ [])
+All-one P x h = All-cons P x [] h (All-nil P)
+
+pub All-two : {A : Type 0} (P : A → Type 0) (x y : A) → P x → P y → All P (x ∷ y ∷ [])
+All-two P x y h k = All-cons P x (y ∷ []) h (All-one P y k)

@@ -9,6 +9,7 @@ use Rattle.hs_expr.specs.declared.value.Value.TheVariants as value
 use Rattle.hs_types.specs.declared.graph.Edge.{Edge}
 use Rattle.hs_types.specs.declared.graph.Graph.{Graph}
 use Rattle.hs_types.specs.declared.graph.Object.{Object}
+use Rattle.hs_types.specs.declared.matching.Extension.{Extension}
 use Rattle.hs_types.specs.declared.matching.Match.{Match}
 use Rattle.hs_types.specs.declared.meta.Class.{Class}
 use Rattle.hs_types.specs.declared.meta.DataType.TheVariants.{EInt}
@@ -202,3 +203,23 @@ sweep = record (rule (object_param (codes "x") 1 ∷ []) (kernel (node (codes "x
 
 abbrev pub args_of : List NamedArg → Args
 args_of list = record { list = list }
+
+abbrev pub nothing : Graph
+nothing = record { objects = []; edges = []; next_object = 0; next_edge = 0; next_name = 0 }
+
+abbrev pub just_client : Graph
+just_client = record { objects = client 0 (codes "c1") ∷ []; edges = []; next_object = 1; next_edge = 0; next_name = 0 }
+
+-- After openAccount: the new account is the object 1 with the name `#0` and the default balance.
+abbrev pub client_with_new_account : Graph
+client_with_new_account = record { objects = client 0 (codes "c1") ∷ account 1 (codes "#0") (pos 0) ∷ []; edges = link 0 0 0 1 ∷ []; next_object = 2; next_edge = 1; next_name = 1 }
+
+-- After purge: the account and the edges to it are gone, and their numbers are used up.
+abbrev pub two_clients : Graph
+two_clients = record { objects = client 0 (codes "c1") ∷ client 1 (codes "c2") ∷ []; edges = []; next_object = 3; next_edge = 2; next_name = 0 }
+
+abbrev pub purge_args : Args
+purge_args = args_of (object_arg (codes "x") (codes "a1") ∷ [])
+
+abbrev pub copy : ℕ → ℕ → Extension
+copy node edge = record { nodes = node ∷ []; edges = edge ∷ [] }

@@ -13,10 +13,13 @@ ghost use Rattle.hs_types.specs.ValidMatch.{IsValid, NoneIsValid};
 ghost use Rattle.hs_types.specs.PlainMatch.{IsPlain, kernel_of};
 ghost use Rattle.hs_types.specs.Dangling.{NoneDangle};
 ghost use Rattle.hs_types.specs.MatchOrder.{IsEarlier};
-ghost use Rattle.hs_types.specs.Conditions.{IsAbsent, IsPresent};
+ghost use Rattle.hs_types.specs.Arguments.{ArgsFit};
+ghost use Rattle.hs_types.specs.Conditions.{AreFit, AreTrue, IsAbsent, IsPresent, env_of};
+ghost use Rattle.hs_types.specs.Copies.{AreCopies, NoneTouch};
+ghost use Rattle.hs_types.specs.Journal.{IsLawful, IsLawfulWritten, IsUnlawfulAt, after_journal, meta_of, new_names, gone_objects};
 ghost use Rattle.hs_types.specs.Plan.{plan_of};
 ghost use Rattle.hs_types.specs.Step.{step};
-ghost use Rattle.hs_laws.specs.ModelB.{model, client, account, link, transfer, transfer_args, two_accounts, one_account, pair_with, three_with, at_match, lone, open_account, drop_client, unlink, two, add, touch, reset, own, alone, purge, sweep, owned_by_another, owned_by_a_third, args_of, object_arg, number};
+ghost use Rattle.hs_laws.specs.ModelB.{model, client, account, link, transfer, transfer_args, two_accounts, one_account, pair_with, three_with, at_match, lone, open_account, drop_client, unlink, two, add, touch, reset, own, alone, purge, sweep, owned_by_another, owned_by_a_third, args_of, object_arg, value_arg, number, nothing, just_client, client_with_new_account, two_clients, purge_args, copy};
 ghost use Rattle.hs_laws.specs.Strange.{looped, family, abstract_object, slotless_account, client_for_account, reused_name, old_names};
 
 /// Metamodels: one that is, one whose class is its own supertype; conformance goes up alone; classes
@@ -83,5 +86,57 @@ pub fn orders()
     ensures first_node { IsEarlier (record { nodes = 0 ∷ 5 ∷ []; edges = 9 ∷ [] }) (record { nodes = 1 ∷ 2 ∷ []; edges = 0 ∷ [] }) }
     ensures then_edges { IsEarlier (record { nodes = 1 ∷ 2 ∷ []; edges = 0 ∷ [] }) (record { nodes = 1 ∷ 2 ∷ []; edges = 3 ∷ [] }) }
     ensures not_itself { IsEarlier (record { nodes = 1 ∷ []; edges = 0 ∷ [] }) (record { nodes = 1 ∷ []; edges = 0 ∷ [] }) → ⊥ }
+{
+}
+
+/// Arguments: those that a transfer takes, one of the wrong kind, and one too many.
+pub fn arguments()
+    ensures fit { ArgsFit transfer.params (transfer_args (pos 30)) }
+    ensures wrong_kind { ArgsFit add.params (args_of (value_arg (codes "a") (pos 1) ∷ [])) → ⊥ }
+    ensures too_many { ArgsFit add.params (args_of (object_arg (codes "a") (codes "a1") ∷ value_arg (codes "z") (pos 1) ∷ [])) → ⊥ }
+    ensures missing { ArgsFit add.params (args_of []) → ⊥ }
+{
+}
+
+/// Conditions: a sum that leaves EInt, a client that a forbid part finds, a client that it can't take
+/// since the kernel has it, and one that a require part wants.
+pub fn conditions()
+    ensures fits { AreFit model (env_of (one_account (pos 2147483646)) add (args_of []) add.shape.nodes (0 ∷ [])) add.sets }
+    ensures leaves { AreFit model (env_of (one_account (pos 2147483647)) add (args_of []) add.shape.nodes (0 ∷ [])) add.sets → ⊥ }
+    ensures too_much { AreTrue (env_of (two_accounts (pos 100) (pos 5)) transfer (transfer_args (pos 101)) transfer.shape.nodes (0 ∷ 1 ∷ [])) transfer.wheres → ⊥ }
+    ensures forbidden { IsAbsent model (pair_with (link 0 1 2 0 ∷ []) 1) reset (record { nodes = 1 ∷ []; edges = [] }) owned_by_another → ⊥ }
+    ensures allowed { IsAbsent model (pair_with [] 0) reset (record { nodes = 1 ∷ []; edges = [] }) owned_by_another }
+    ensures kernel_has_it { IsAbsent model (pair_with (link 0 1 2 0 ∷ []) 1) alone (record { nodes = 1 ∷ 0 ∷ []; edges = [] }) owned_by_a_third }
+    ensures required { IsPresent model (pair_with (link 0 1 2 0 ∷ []) 1) own (record { nodes = 1 ∷ []; edges = [] }) owned_by_another }
+    ensures not_there { IsPresent model (pair_with [] 0) own (record { nodes = 1 ∷ []; edges = [] }) owned_by_another → ⊥ }
+{
+}
+
+/// A transfer of 30 between accounts with 100 and 5.
+pub fn transfers()
+    ensures is_rule { IsRule model transfer }
+    ensures valid { IsValid model (two_accounts (pos 100) (pos 5)) transfer (transfer_args (pos 30)) (at_match (0 ∷ 1 ∷ []) []) }
+    ensures after { step (two_accounts (pos 100) (pos 5)) (plan_of model (two_accounts (pos 100) (pos 5)) transfer (transfer_args (pos 30)) (at_match (0 ∷ 1 ∷ []) [])) ≡ two_accounts (pos 70) (pos 35) }
+{
+}
+
+/// Steps: new objects get the next numbers and names, and of parallel edges the one that the match
+/// took goes.
+pub fn steps_made()
+    ensures first_name { new_names nothing (plan_of model nothing lone (args_of []) (at_match [] [])) ≡ codes "#0" ∷ [] }
+    ensures next_name { new_names old_names (plan_of model old_names lone (args_of []) (at_match [] [])) ≡ codes "#8" ∷ [] }
+    ensures opened { step (just_client) (plan_of model just_client open_account (args_of []) (at_match (0 ∷ []) [])) ≡ client_with_new_account }
+    ensures unlinked { step (pair_with (link 0 0 0 1 ∷ link 1 0 0 1 ∷ []) 2) (plan_of model (pair_with (link 0 0 0 1 ∷ link 1 0 0 1 ∷ []) 2) unlink (args_of []) (at_match (0 ∷ 1 ∷ []) (0 ∷ []))) ≡ pair_with (link 1 0 0 1 ∷ []) 2 }
+{
+}
+
+/// Copies: two clients each lose their link to an account that goes; no client is no copy; a copy
+/// can't be left out; and two copies that drop one client touch.
+pub fn copies()
+    ensures both { IsValid model (three_with (link 0 0 0 2 ∷ link 1 1 0 2 ∷ []) 2) purge purge_args (record { nodes = 2 ∷ []; edges = []; copies = (copy 0 0 ∷ copy 1 1 ∷ []) ∷ [] }) }
+    ensures none { IsValid model (one_account (pos 0)) purge purge_args (record { nodes = 0 ∷ []; edges = []; copies = [] ∷ [] }) }
+    ensures not_one { IsValid model (three_with (link 0 0 0 2 ∷ link 1 1 0 2 ∷ []) 2) purge purge_args (record { nodes = 2 ∷ []; edges = []; copies = (copy 0 0 ∷ []) ∷ [] }) → ⊥ }
+    ensures purged { step (three_with (link 0 0 0 2 ∷ link 1 1 0 2 ∷ []) 2) (plan_of model (three_with (link 0 0 0 2 ∷ link 1 1 0 2 ∷ []) 2) purge purge_args (record { nodes = 2 ∷ []; edges = []; copies = (copy 0 0 ∷ copy 1 1 ∷ []) ∷ [] })) ≡ two_clients }
+    ensures touching { NoneTouch sweep (record { nodes = 1 ∷ []; edges = []; copies = (copy 0 0 ∷ copy 0 1 ∷ []) ∷ [] }) → ⊥ }
 {
 }

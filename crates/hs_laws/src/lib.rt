@@ -13,7 +13,9 @@ mod sparing;
 mod steps;
 
 pub use conformance::conformance_is_an_order;
-pub use examples::{dangling, expressions, graphs, metamodels, orders, plain_matches};
+pub use examples::{
+    arguments, conditions, copies, dangling, expressions, graphs, metamodels, orders, plain_matches, steps_made, transfers,
+};
 pub use journals::{
     journals_go_on, journals_stay_lawful, lawful_or_not, missed_attempts_change_nothing,
 };
