@@ -1,11 +1,17 @@
 -- A small bank, for examples: clients with accounts, and accounts with a balance and an owner.
 use Rattle.std.specs.Prelude.{ℕ, ◌^◌, ◌-◌, ℤ, pos, List, [], ◌∷◌, true, false, Some, None, codes, Option}
+use Rattle.std.proofs.Common.{lit<}
 use Rattle.hs_expr.specs.declared.expr.Expr.{Expr}
 use Rattle.hs_expr.specs.declared.expr.Expr.TheVariants as expr
 use Rattle.hs_expr.specs.declared.expr.Sign.TheVariants as sign
 use Rattle.hs_expr.specs.declared.value.Kind.TheVariants as kind
 use Rattle.hs_expr.specs.declared.value.Value.{Value}
 use Rattle.hs_expr.specs.declared.value.Value.TheVariants as value
+use Rattle.hs_types.specs.declared.entry.Entry.{Entry}
+use Rattle.hs_types.specs.declared.entry.Outcome.{Outcome}
+use Rattle.hs_types.specs.declared.entry.Outcome.TheVariants.{Applied}
+use Rattle.hs_types.specs.declared.entry.Tried.{Tried}
+use Rattle.hs_types.specs.declared.entry.What.TheVariants.{One}
 use Rattle.hs_types.specs.declared.graph.Edge.{Edge}
 use Rattle.hs_types.specs.declared.graph.Graph.{Graph}
 use Rattle.hs_types.specs.declared.graph.Object.{Object}
@@ -39,12 +45,12 @@ abbrev pub model : Meta
 model = record {
   format = 1;
   classes = record { name = codes "Client"; is_abstract = false; supers = []; features = 0 ∷ [] }
-    ∷ record { name = codes "Account"; is_abstract = false; supers = []; features = 1 ∷ 2 ∷ [] }
-    ∷ [];
+      ∷ record { name = codes "Account"; is_abstract = false; supers = []; features = 1 ∷ 2 ∷ [] }
+      ∷ [];
   features = record { owner = 0; name = codes "accounts"; kind = Reference 1 false 0 None }
-    ∷ record { owner = 1; name = codes "balance"; kind = Attribute EInt (value.Int (pos 0)) }
-    ∷ record { owner = 1; name = codes "owner"; kind = Reference 0 false 0 (Some 1) }
-    ∷ []
+      ∷ record { owner = 1; name = codes "balance"; kind = Attribute EInt (value.Int (pos 0)) }
+      ∷ record { owner = 1; name = codes "owner"; kind = Reference 0 false 0 (Some 1) }
+      ∷ [];
 }
 
 abbrev pub client : ℕ → List ℕ → Object
@@ -116,7 +122,7 @@ at_match nodes edges = record { nodes = nodes; edges = edges; copies = [] }
 abbrev pub transfer : Rule
 transfer = record (rule (object_param (codes "from") 1 ∷ object_param (codes "to") 1 ∷ record { direction = In; name = codes "amount"; kind = param.Data kind.Int } ∷ []) (kernel (node (codes "from") 1 Keep ∷ node (codes "to") 1 Keep ∷ []) [] (balance_of 0 ∷ balance_of 1 ∷ []))) {
   wheres = expr.Binary sign.And (expr.Binary sign.Greater (expr.Param 2) (number (pos 0))) (expr.Binary sign.AtLeast (balance 0) (expr.Param 2)) ∷ [];
-  sets = set_balance 0 (expr.Binary sign.Minus (balance 0) (expr.Param 2)) ∷ set_balance 1 (expr.Binary sign.Plus (balance 1) (expr.Param 2)) ∷ []
+  sets = set_balance 0 (expr.Binary sign.Minus (balance 0) (expr.Param 2)) ∷ set_balance 1 (expr.Binary sign.Plus (balance 1) (expr.Param 2)) ∷ [];
 }
 
 abbrev pub transfer_args : ℤ → Args
@@ -223,3 +229,27 @@ purge_args = args_of (object_arg (codes "x") (codes "a1") ∷ [])
 
 abbrev pub copy : ℕ → ℕ → Extension
 copy node edge = record { nodes = node ∷ []; edges = edge ∷ [] }
+
+-- The first attempt of its request.
+abbrev pub tried : ℕ → Args → Outcome → Tried
+tried number args outcome = record { attempt = 0; rule = number; args = args; outcome = outcome; attempt_bound = lit< tt }
+
+abbrev pub one : ℕ → Tried → Entry
+one request attempt = record { session = 0; request = request; what = One attempt }
+
+-- The first request opens an account `#0`, the second adds to it; of these rules openAccount is 0, add 1.
+abbrev pub opens : Entry
+opens = one 0 (tried 0 (args_of (object_arg (codes "c") (codes "c1") ∷ [])) (Applied (record { nodes = codes "c1" ∷ []; edges = []; copies = [] }) (codes "#0" ∷ []) [] []))
+
+abbrev pub adds : Entry
+adds = one 1 (tried 1 (args_of (object_arg (codes "a") (codes "#0") ∷ [])) (Applied (record { nodes = codes "#0" ∷ []; edges = []; copies = [] }) [] (value.Int (pos 0) ∷ []) []))
+
+-- The same two requests the other way round.
+abbrev pub adds_first : Entry
+adds_first = one 0 (tried 1 (args_of (object_arg (codes "a") (codes "#0") ∷ [])) (Applied (record { nodes = codes "#0" ∷ []; edges = []; copies = [] }) [] (value.Int (pos 0) ∷ []) []))
+
+abbrev pub opens_second : Entry
+opens_second = one 1 (tried 0 (args_of (object_arg (codes "c") (codes "c1") ∷ [])) (Applied (record { nodes = codes "c1" ∷ []; edges = []; copies = [] }) (codes "#0" ∷ []) [] []))
+
+abbrev pub client_with_one : Graph
+client_with_one = record client_with_new_account { objects = client 0 (codes "c1") ∷ account 1 (codes "#0") (pos 1) ∷ [] }

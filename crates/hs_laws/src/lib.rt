@@ -14,7 +14,8 @@ mod steps;
 
 pub use conformance::conformance_is_an_order;
 pub use examples::{
-    arguments, conditions, copies, dangling, expressions, graphs, metamodels, orders, plain_matches, steps_made, transfers,
+    arguments, conditions, copies, dangling, expressions, graphs, journals_told, metamodels,
+    orders, plain_matches, steps_made, transfers,
 };
 pub use journals::{
     journals_go_on, journals_stay_lawful, lawful_or_not, missed_attempts_change_nothing,

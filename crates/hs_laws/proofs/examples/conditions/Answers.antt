@@ -22,6 +22,7 @@ returns-clause-fits c = All-one F (set_balance 0 (expr.Binary sign.Plus (balance
   where
     env : Env
     env = env_of (one_account (pos 2147483646)) add (args_of []) add.shape.nodes (0 ∷ [])
+
     F : SetItem → Type 0
     F item = IsSomeAnd (value_of env item.value) (λ v. fits model item.attribute v ≡ true)
 

@@ -85,6 +85,7 @@ one_of_two (n ∷ []) (e ∷ []) i = elim (cases_Bool (eqb 0 e)) [
   where
     at : edge_at linked e ≡ Some (record { number = e; source = n; reference = 0; target = 2 })
     at = i.0.edges_fit.0
+
     same : (j e n : ℕ) → j ≡ e → j ≡ n → copy j j ≡ copy n e
     same j e n a b = ap (λ (x : ℕ). copy x j) b ∙ ap (λ (x : ℕ). copy n x) a
 
@@ -111,10 +112,13 @@ returns-clause-both c = record {
   where
     made : ℕ → Copy
     made n = record { multi = client_of; found = copy n n }
+
     S : Copy → Type 0
     S d = SparesCopy purge (copies_kernel 2) (made 0) d × SparesCopy purge (copies_kernel 2) d (made 0)
+
     T : Copy → Type 0
     T d = SparesCopy purge (copies_kernel 2) (made 1) d × SparesCopy purge (copies_kernel 2) d (made 1)
+
     spares : (i j : ℕ) → Apart (i ∷ []) (j ∷ []) → SparesCopy purge (copies_kernel 2) (made i) (made j)
     spares i j a = record { objects = search rules; edges = a; slots = search rules }
 
@@ -123,6 +127,7 @@ returns-clause-not_one c h = missing (h.copies.0.whole (copy 1 1) second_copy)
   where
     first_node : Extension → ℕ
     first_node x = get_or x.nodes 0 0
+
     missing : Contains (copy 0 0 ∷ []) (copy 1 1) → ⊥
     missing (zero, l, e) = below_differs 0 1 (lit< tt) (ap first_node e)
     missing (suc k, l, e) = absurd (omega arith)

@@ -36,8 +36,10 @@ returns-clause-none_valid c f v = go f.nodes v.follows v.none_dangle
   where
     g : Graph
     g = pair_with (link 0 1 2 0 ∷ []) 1
+
     dropped : List ℕ → List ℕ
     dropped ns = beside (λ node. is_drop node.mark) (left_nodes drop_client.shape.nodes) ns ++ []
+
     go : (ns : List ℕ) → AllZip (Follows g (args_of (object_arg (codes "c") (codes "c1") ∷ []))) (left_nodes drop_client.shape.nodes) ns → NoneDangle (dropped ns) [] g → ⊥
     go [] h s = h
     go (n ∷ []) h s = both_ways false refl (subst (λ (i : ℕ). NoneDangle (i ∷ []) [] g) (c1_is_first n h.0) s 0 (link 0 0 0 0) (lit< tt) refl)

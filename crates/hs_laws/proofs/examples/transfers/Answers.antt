@@ -33,8 +33,10 @@ returns-clause-valid c = record {
   where
     env : Env
     env = env_of (two_accounts (pos 100) (pos 5)) transfer (transfer_args (pos 30)) transfer.shape.nodes (0 ∷ 1 ∷ [])
+
     W : Expr → Type 0
     W e = value_of env e ≡ Some (value.Bool true)
+
     F : SetItem → Type 0
     F item = IsSomeAnd (value_of env item.value) (λ v. fits model item.attribute v ≡ true)
 
@@ -64,13 +66,18 @@ returns-clause-is_rule c = record {
   where
     account_fits : HaveCommon model 1 1 × (false ≡ true → IsConcrete model 1)
     account_fits = ((1, refl, itself 1, itself 1), λ h. refl)
+
     where_ : Expr
     where_ = expr.Binary sign.And (expr.Binary sign.Greater (expr.Param 2) (number (pos 0))) (expr.Binary sign.AtLeast (balance 0) (expr.Param 2))
+
     first : SetItem
     first = set_balance 0 (expr.Binary sign.Minus (balance 0) (expr.Param 2))
+
     second : SetItem
     second = set_balance 1 (expr.Binary sign.Plus (balance 1) (expr.Param 2))
+
     W : Expr → Type 0
     W e = kind_in (scope_of model transfer transfer.shape.nodes) e ≡ Some kind.Bool
+
     F : SetItem → Type 0
     F item = (0 ≤ item.node) × SetFits model (scope_of model transfer transfer.shape.nodes) transfer.shape.nodes item
