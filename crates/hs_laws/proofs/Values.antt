@@ -1,16 +1,13 @@
 -- Values of expressions.
-use Rattle.std.proofs.Common.{ℕ, ◌≡◌, List, [], ◌∷◌, ◌++◌, Option, Some, refl, sym, ap, ◌∙◌, subst}
+use Rattle.std.proofs.Common.{ℕ, ◌≡◌, List, [], Option, refl, sym, ap, ◌∙◌, subst}
 use Rattle.std.specs.List.{All}
 use Rattle.std.specs.Option.{option_and_then}
 use Rattle.std.proofs.lemmas.List.Elements.{All-head}
 use Rattle.hs_expr.specs.declared.expr.Expr.{Expr, ind-Expr, map-Expr, roll-Expr, fold-roll-Expr}
 use Rattle.hs_expr.specs.declared.expr.Expr.TheOpen.{Expr-F}
-use Rattle.hs_expr.specs.declared.expr.Expr.TheVariants as expr
-use Rattle.hs_expr.specs.declared.expr.Sign.{Sign}
 use Rattle.hs_expr.specs.declared.expr.SlotRead.{SlotRead}
-use Rattle.hs_expr.specs.declared.value.Kind.{Kind}
 use Rattle.hs_expr.specs.declared.value.Value.{Value}
-use Rattle.hs_expr.specs.Evaluation.{Env, Scope, joined, kind_in, kind_joined, kind_negated, kind_of, kind_of_level, kind_opposite, level, negated, opposite, value_of, reads_of, reads_of_level}
+use Rattle.hs_expr.specs.Evaluation.{Env, joined, level, negated, opposite, value_of, reads_of, reads_of_level}
 use Rattle.hs_laws.proofs.Lists.{All-front, All-rest_of}
 
 -- Both give the same for each slot that is read.

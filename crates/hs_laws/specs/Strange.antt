@@ -1,9 +1,9 @@
 -- Metamodels and graphs that show what the definitions refuse.
-use Rattle.std.specs.Prelude.{ℕ, pos, List, [], ◌∷◌, true, false, codes}
+use Rattle.std.specs.Prelude.{[], ◌∷◌, true, false, codes}
 use Rattle.hs_types.specs.declared.graph.Graph.{Graph}
 use Rattle.hs_types.specs.declared.graph.Object.{Object}
 use Rattle.hs_types.specs.declared.meta.Meta.{Meta}
-use Rattle.hs_laws.specs.ModelB.{account, client, link}
+use Rattle.hs_laws.specs.ModelB.{client, link}
 
 -- A class that is its own supertype.
 abbrev pub looped : Meta

@@ -1,19 +1,17 @@
-use Rattle.std.proofs.Common.{ℕ, ◌≡◌, List, [], ◌∷◌, Bool, true, false, Option, Some, None, IsSomeAnd, pos, refl, ap, rules, lit<}
+use Rattle.std.proofs.Common.{◌≡◌, [], ◌∷◌, Bool, true, false, Option, Some, IsSomeAnd, pos, refl, ap, rules, lit<}
 use Rattle.std.proofs.lemmas.Bool.{both_ways}
-use Rattle.std.proofs.lemmas.List.Elements.{All-nil, All-cons}
 use Rattle.hs_expr.specs.declared.expr.Expr.TheVariants as expr
 use Rattle.hs_expr.specs.declared.expr.Sign.TheVariants as sign
 use Rattle.hs_expr.specs.declared.value.Value.{Value}
 use Rattle.hs_expr.specs.declared.value.Value.TheVariants as value
 use Rattle.hs_expr.specs.Evaluation.{Env, value_of}
 use Rattle.hs_expr.proofs.Evaluations.{values}
-use Rattle.hs_types.specs.declared.matching.Extension.{Extension}
 use Rattle.hs_types.specs.declared.rule.SetItem.{SetItem}
 use Rattle.hs_types.specs.Conditions.{env_of}
 use Rattle.hs_types.specs.Metamodel.{fits, itself}
 use Rattle.hs_types.specs.Pattern.{shape_of}
 use Rattle.hs_types.specs.PlainMatch.{Extends}
-use Rattle.hs_laws.specs.ModelB.{add, args_of, balance, copy, link, model, number, one_account, own, owned_by_another, pair_with, reset, set_balance}
+use Rattle.hs_laws.specs.ModelB.{add, args_of, balance, copy, link, model, number, one_account, owned_by_another, pair_with, reset, set_balance}
 use Rattle.hs_laws.proofs.Lists.{All-one}
 use Rattle.hs_laws.proofs.examples.conditions.Goals as goal
 

@@ -1,7 +1,6 @@
-use Rattle.std.proofs.Common.{ℕ, suc, zero, ◌<◌, ◌≡◌, ◌⊎◌, inl, inr, List, [], ◌∷◌, ◌++◌, get_or, Bool, true, false, eqb, Option, Some, None, pos, refl, sym, ap, ◌∙◌, subst, rules, arith, lit<, Contains}
+use Rattle.std.proofs.Common.{ℕ, suc, zero, ◌≡◌, inl, inr, List, [], ◌∷◌, get_or, Bool, true, false, eqb, Option, Some, None, pos, refl, ap, ◌∙◌, rules, arith, lit<, Contains}
 use Rattle.std.proofs.lemmas.Bool.{both_ways, cases_Bool, eqb-true}
 use Rattle.std.proofs.lemmas.List.Elements.{All-nil}
-use Rattle.hs_expr.specs.declared.expr.Expr.{Expr}
 use Rattle.hs_expr.specs.declared.value.Value.TheVariants as value
 use Rattle.hs_expr.specs.Evaluation.{value_of}
 use Rattle.hs_types.specs.declared.graph.Edge.{Edge}

@@ -1,15 +1,13 @@
-use Rattle.std.proofs.Common.{ℕ, ◌≡◌, ◌⊎◌, inl, inr, List, [], ◌∷◌, ◌++◌, Bool, true, false, refl, sym, ap, ◌∙◌, subst, lit<, eqb, Option, None, Some, codes, arith}
+use Rattle.std.proofs.Common.{ℕ, ◌≡◌, inl, inr, List, [], ◌∷◌, ◌++◌, false, refl, sym, ap, subst, lit<, eqb, Option, None, Some, codes}
 use Rattle.std.specs.List.{AllZip}
 use Rattle.std.proofs.lemmas.Bool.{both_ways, cases_Bool, eqb-true}
-use Rattle.hs_types.specs.declared.matching.Match.{Match}
 use Rattle.hs_types.specs.Arguments.{Follows}
 use Rattle.hs_types.specs.declared.graph.Graph.{Graph}
 use Rattle.hs_types.specs.Dangling.{NoneDangle}
 use Rattle.hs_types.specs.Lists.{beside}
 use Rattle.hs_types.specs.Pattern.{is_drop, left_nodes}
 use Rattle.hs_types.specs.TypedGraph.{name_at}
-use Rattle.hs_types.specs.ValidMatch.{IsValid, all_dropped_edges, all_dropped_nodes}
-use Rattle.hs_laws.specs.ModelB.{args_of, drop_client, link, model, object_arg, pair_with}
+use Rattle.hs_laws.specs.ModelB.{args_of, drop_client, link, object_arg, pair_with}
 use Rattle.hs_laws.proofs.Lists.{below_differs}
 use Rattle.hs_laws.proofs.examples.dangling.Goals as goal
 

@@ -1,4 +1,4 @@
-use Rattle.std.proofs.Common.{ℕ, suc, zero, ◌≡◌, List, [], ◌∷◌, IsSomeAnd, codes, pos, true, refl, sym, subst, rules, lit<, lit≤}
+use Rattle.std.proofs.Common.{suc, zero, ◌≡◌, [], ◌∷◌, IsSomeAnd, codes, pos, true, refl, sym, subst, rules, lit<, lit≤}
 use Rattle.hs_expr.specs.declared.expr.Expr.TheVariants as expr
 use Rattle.hs_expr.specs.declared.expr.Sign.TheVariants as sign
 use Rattle.hs_expr.specs.declared.value.Value.TheVariants as value
@@ -13,7 +13,7 @@ use Rattle.hs_types.specs.ValidMatch.{IsValid}
 use Rattle.hs_laws.proofs.Lists.{All-one}
 use Rattle.hs_types.specs.declared.graph.Graph.{Graph}
 use Rattle.hs_types.specs.declared.unit.RuleSet.{RuleSet}
-use Rattle.hs_types.specs.Journal.{Asks, IsLawfulEntry, after_entry, after_journal, meta_of}
+use Rattle.hs_types.specs.Journal.{Asks, IsLawfulEntry, after_entry, meta_of}
 use Rattle.hs_expr.proofs.Evaluations.{values}
 use Rattle.hs_laws.specs.ModelB.{add, adds, args_of, at_match, balance, client_with_new_account, client_with_one, just_client, model, number, object_arg, open_account, opens, set_balance, tried}
 use Rattle.hs_laws.proofs.examples.journals_told.Goals as goal
@@ -65,7 +65,7 @@ opens_lawful set m r cause.Rule = rw r (search rules)
 opens_lawful set m r cause.Match = rw (r, m) opens_valid
 opens_lawful set m r cause.Valid = rw r tt
 opens_lawful set m r cause.New = rw r (refl, (lit≤ tt, lit≤ tt))
-opens_lawful set m r cause.Old = rw (r, m) (refl, refl)
+opens_lawful set m r cause.Old = rw r (refl, refl)
 
 adds_lawful : (set : RuleSet) → meta_of set ≡ model → set.rules ≡ open_account ∷ add ∷ [] → (asked : Cause) → Asks set client_with_new_account (tried 1 (args_of (object_arg (codes "a") (codes "#0") ∷ [])) (Applied (record { nodes = codes "#0" ∷ []; edges = []; copies = [] }) [] (value.Int (pos 0) ∷ []) [])) asked
 adds_lawful set m r cause.Number = rw r tt
@@ -73,7 +73,7 @@ adds_lawful set m r cause.Rule = rw r (search rules)
 adds_lawful set m r cause.Match = rw (r, m) adds_valid
 adds_lawful set m r cause.Valid = rw r tt
 adds_lawful set m r cause.New = rw r (refl, (lit≤ tt, lit≤ tt))
-adds_lawful set m r cause.Old = rw (r, m) (simp values (refl, refl))
+adds_lawful set m r cause.Old = rw r (simp values (refl, refl))
 
 pub returns-clause-lawful : goal.returns-clause-lawful
 returns-clause-lawful c set m r zero = record { numbered = record { at_its_place = refl; within_sessions = lit< tt; not_behind = search rules; tries_numbered = refl }; tries = (opens_lawful set m r, tt) }

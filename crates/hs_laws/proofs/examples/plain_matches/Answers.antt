@@ -1,5 +1,4 @@
 use Rattle.std.proofs.Common.{refl, rules}
-use Rattle.std.proofs.lemmas.List.Elements.{All-nil, All-cons}
 use Rattle.hs_types.specs.Metamodel.{itself}
 use Rattle.hs_laws.proofs.examples.plain_matches.Goals as goal
 
