@@ -1,5 +1,5 @@
 -- The value of an expression: strict, in whole numbers of 64 bits with a sign.
-use Rattle.std.specs.Prelude.{ℕ, ◌^◌, ℤ, pos, negsuc, ◌+ℤ◌, ◌-ℤ◌, ◌*ℤ◌, neg_ℤ, List, [], ◌∷◌, ◌++◌, Bool, false, not, ◌&&◌, ◌||◌, if◌then◌else◌, Option, Some, None, nat_eq, nat_lt, int_lt, int_le}
+use Rattle.std.specs.Prelude.{ℕ, ◌+◌, ◌^◌, max, ℤ, pos, negsuc, ◌+ℤ◌, ◌-ℤ◌, ◌*ℤ◌, neg_ℤ, List, [], ◌∷◌, ◌++◌, Bool, false, not, ◌&&◌, ◌||◌, if◌then◌else◌, Option, Some, None, nat_eq, nat_lt, int_lt, int_le}
 use Rattle.std.specs.Bool.{beq}
 use Rattle.std.specs.Ordering.{int_eq}
 use Rattle.std.specs.Option.{option_and_then}
@@ -134,3 +134,16 @@ kind_of_level scope (Expr-F.Binary sign a b) = option_and_then (λ x. option_and
 -- The kind of an expression, where each of its parts has a kind that its place takes.
 abbrev pub kind_in : Scope → Expr → Option Kind
 kind_in scope = fold-Expr (Option Kind) (kind_of_level scope)
+
+-- How many operators stand on one path down the level, beside those of its operands.
+abbrev pub nesting_of_level : Expr-F ℕ → ℕ
+nesting_of_level (Expr-F.Literal v) = 0
+nesting_of_level (Expr-F.Slot read) = 0
+nesting_of_level (Expr-F.Param number) = 0
+nesting_of_level (Expr-F.Not a) = a + 1
+nesting_of_level (Expr-F.Minus a) = a + 1
+nesting_of_level (Expr-F.Binary sign a b) = max a b + 1
+
+-- The most operators on one path down the expression.
+abbrev pub nesting : Expr → ℕ
+nesting = fold-Expr ℕ nesting_of_level

@@ -44,3 +44,16 @@ pub record IsLeast (m : Meta) (g : Graph) (rule : Rule) (args : Args) (f : Match
 -- What a search for the rule answers: the least valid match, or nothing where none is valid.
 abbrev pub IsFirst : Meta → Graph → Rule → Args → Option Match → Type 0
 IsFirst m g rule args answer = MatchOption answer (NoneIsValid m g rule args) (IsLeast m g rule args)
+
+-- It is valid and comes after one, and none between is valid.
+pub record IsLeastAfter (m : Meta) (g : Graph) (rule : Rule) (args : Args) (after f : Match) : Type 0 where
+  pub valid : IsValid m g rule args f
+  pub later : IsEarlier (kernel_of after) (kernel_of f)
+  pub least : (h : Match) → IsValid m g rule args h → IsEarlier (kernel_of after) (kernel_of h) → IsEarlier (kernel_of h) (kernel_of f) → ⊥
+
+abbrev pub NoneIsAfter : Meta → Graph → Rule → Args → Match → Type 0
+NoneIsAfter m g rule args after = (f : Match) → IsValid m g rule args f → IsEarlier (kernel_of after) (kernel_of f) → ⊥
+
+-- What a search answers behind a match: the next valid one in order, or nothing where no later one is valid.
+abbrev pub IsNext : Meta → Graph → Rule → Args → Match → Option Match → Type 0
+IsNext m g rule args after answer = MatchOption answer (NoneIsAfter m g rule args after) (IsLeastAfter m g rule args after)
