@@ -132,3 +132,37 @@ image-behind R (x ∷ xs) ys (m ∷ ms) ns (suc n) z l =
       | inr e ↦ let a : image (x ∷ (xs ++ ys)) (m ∷ (ms ++ ns)) (suc n) ≡ image (xs ++ ys) (m ∷ (ms ++ ns)) n = rw e refl in
           a ∙ (image-behind R xs ys (m ∷ ms) ns n (rw e at z) (omega arith) ∙ ap (image ys ns) (sym s))
     ]
+
+-- Different left nodes have different images.
+pub image-injective : (R : PatternNode → ℕ → Type 0) (nodes : List PatternNode) (images : List ℕ) (i j : ℕ) → AllZip R (left_nodes nodes) images → Differ images → IsLeft nodes i → IsLeft nodes j → image nodes images i ≡ image nodes images j → i ≡ j
+image-injective R [] images i j z d a b e = absurd (both_ways false refl a)
+image-injective R (x ∷ xs) images zero zero z d a b e = refl
+image-injective R (x ∷ xs) [] zero (suc j) z d a b e = absurd (rw a at z)
+image-injective R (x ∷ xs) (m ∷ ms) zero (suc j) z d a b e =
+    let z' : AllZip R (x ∷ left_nodes xs) (m ∷ ms) = rw a at z in
+    let same : image (x ∷ xs) (m ∷ ms) (suc j) ≡ image xs ms j = rw a refl in
+    let among : has ms (image xs ms j) ≡ true = image-among R xs ms j z'.1 b in
+    let first : m ≡ image xs ms j = e ∙ same in
+    absurd (both_ways (has ms m) (Differ-apart m ms d.0) (subst (λ (k : ℕ). has ms k ≡ true) (sym first) among))
+image-injective R (x ∷ xs) [] (suc i) zero z d a b e = absurd (rw b at z)
+image-injective R (x ∷ xs) (m ∷ ms) (suc i) zero z d a b e =
+    let z' : AllZip R (x ∷ left_nodes xs) (m ∷ ms) = rw b at z in
+    let same : image (x ∷ xs) (m ∷ ms) (suc i) ≡ image xs ms i = rw b refl in
+    let among : has ms (image xs ms i) ≡ true = image-among R xs ms i z'.1 a in
+    let first : image xs ms i ≡ m = sym same ∙ e in
+    absurd (both_ways (has ms m) (Differ-apart m ms d.0) (subst (λ (k : ℕ). has ms k ≡ true) first among))
+image-injective R (x ∷ xs) [] (suc i) (suc j) z d a b e = elim (cases_Bool (is_left x.mark)) [
+  | inl t ↦ absurd (rw t at z)
+  | inr t ↦ let p : image (x ∷ xs) [] (suc i) ≡ image xs [] i = refl in
+      let q : image (x ∷ xs) [] (suc j) ≡ image xs [] j = refl in
+      ap suc (image-injective R xs [] i j (rw t at z) d a b (sym p ∙ (e ∙ q)))
+]
+image-injective R (x ∷ xs) (m ∷ ms) (suc i) (suc j) z d a b e = elim (cases_Bool (is_left x.mark)) [
+  | inl t ↦ let z' : AllZip R (x ∷ left_nodes xs) (m ∷ ms) = rw t at z in
+      let p : image (x ∷ xs) (m ∷ ms) (suc i) ≡ image xs ms i = rw t refl in
+      let q : image (x ∷ xs) (m ∷ ms) (suc j) ≡ image xs ms j = rw t refl in
+      ap suc (image-injective R xs ms i j z'.1 d.1 a b (sym p ∙ (e ∙ q)))
+  | inr t ↦ let p : image (x ∷ xs) (m ∷ ms) (suc i) ≡ image xs (m ∷ ms) i = rw t refl in
+      let q : image (x ∷ xs) (m ∷ ms) (suc j) ≡ image xs (m ∷ ms) j = rw t refl in
+      ap suc (image-injective R xs (m ∷ ms) i j (rw t at z) d a b (sym p ∙ (e ∙ q)))
+]

@@ -13,3 +13,4 @@ pub mod Planned
 pub mod Earlier
 pub mod Stepped
 pub mod Lawful
+pub mod Fitting

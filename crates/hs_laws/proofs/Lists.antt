@@ -3,7 +3,7 @@ use Rattle.std.proofs.Common.{ℕ, suc, zero, ◌+◌, ◌-◌, ◌<◌, ◌≤�
 use Rattle.std.specs.List.{All, AllZip, filter, filter_map, find, flat_map}
 use Rattle.std.specs.Option.{option_map}
 use Rattle.std.proofs.lemmas.Bool.{eqb-true, eq-eqb, ne_eqb, cases_Bool, both_ways, or_cases, or_right, or_left, or_from, cond-true, cond-false, false_from_ne_true}
-use Rattle.std.proofs.lemmas.List.Elements.{All-nil, All-cons, All-head, All-tail, All-append, All-weaker}
+use Rattle.std.proofs.lemmas.List.Elements.{All-nil, All-cons, All-head, All-tail, All-append, All-weaker, All-filter}
 use Rattle.hs_types.specs.Lists.{has, beside, Apart, Differ, EachPair, Rise}
 
 -- What the test finds passes it, and has what all items have.
@@ -328,3 +328,19 @@ All-one P x h = All-cons P x [] h (All-nil P)
 
 pub All-two : {A : Type 0} (P : A → Type 0) (x y : A) → P x → P y → All P (x ∷ y ∷ [])
 All-two P x y h k = All-cons P x (y ∷ []) h (All-one P y k)
+
+-- Pairs of what a function gives, and of those that pass.
+pub EachPair-filter : {A : Type 0} (R : A → A → Type 0) (q : A → Bool) (xs : List A) → EachPair R xs → EachPair R (filter q xs)
+EachPair-filter R q [] p = tt
+EachPair-filter R q (x ∷ xs) p = elim (cases_Bool (q x)) [
+  | inl e ↦ rw e (All-filter q (R x) xs p.0, EachPair-filter R q xs p.1)
+  | inr e ↦ rw e (EachPair-filter R q xs p.1)
+]
+
+pub EachPair-filter_map : {A B : Type 0} (R : A → A → Type 0) (S : B → B → Type 0) (f : A → Option B) → ((x y : A) (v w : B) → f x ≡ Some v → f y ≡ Some w → R x y → S v w) → (xs : List A) → EachPair R xs → EachPair S (filter_map f xs)
+EachPair-filter_map R S f g [] p = tt
+EachPair-filter_map {A} {B} R S f g (x ∷ xs) p = go (EachPair-filter_map R S f g xs p.1) (f x) refl
+  where
+    go : EachPair S (filter_map f xs) → (o : Option B) → f x ≡ o → EachPair S (filter_map f (x ∷ xs))
+    go rest None e = rw e rest
+    go rest (Some v) e = rw e (All-filter_map (S v) f xs (All-weaker (R x) (λ y. (w : B) → f y ≡ Some w → S v w) (λ y r w k. g x y v w e k r) xs p.0), rest)

@@ -13,7 +13,7 @@ ghost use Rattle.hs_types.specs.Dangling.{NoneDangle};
 ghost use Rattle.hs_types.specs.Lists.{has};
 ghost use Rattle.hs_types.specs.Metamodel.{IsMeta};
 ghost use Rattle.hs_types.specs.Pattern.{is_drop};
-ghost use Rattle.hs_types.specs.Plan.{plan_of};
+ghost use Rattle.hs_types.specs.Plan.{Fits, plan_of};
 ghost use Rattle.hs_types.specs.RuleForm.{IsRule};
 ghost use Rattle.hs_types.specs.Step.{is_to, rewritten, step};
 ghost use Rattle.hs_types.specs.TypedGraph.{IsTyped, edge_at, object_at, value_at};
@@ -32,6 +32,14 @@ pub fn steps_stay_typed()
         → (step g plan).next_edge ≡ g.next_edge + length plan.make_edges }
     ensures next_name { (g : Graph) (plan : Plan)
         → (step g plan).next_name ≡ g.next_name + length plan.make_objects }
+{}
+
+/// The plan of a valid match can be carried out in its graph: what it drops and writes is there, each
+/// once, and what it makes is such as a typed graph has.
+pub fn plans_fit()
+    ensures { (m : Meta) (g : Graph) (rule : Rule) (args : Args) (f : Match)
+        → IsMeta m → IsRule m rule → IsTyped m g → IsValid m g rule args f
+        → Fits m g (plan_of m g rule args f) }
 {}
 
 /// A step changes nothing that its plan doesn't name.

@@ -1,5 +1,5 @@
 -- The elements of a pattern: what a rule uses, deletes and creates.
-use Rattle.std.specs.Prelude.{ℕ, Bool, false, ◌&&◌, ◌||◌, Option, slice_get}
+use Rattle.std.specs.Prelude.{ℕ, Bool, false, ◌&&◌, slice_get}
 use Rattle.std.specs.Option.{option_map, unwrap_or}
 use Rattle.hs_types.specs.declared.rule.Mark.{Mark}
 use Rattle.hs_types.specs.declared.rule.PatternSlot.{PatternSlot}

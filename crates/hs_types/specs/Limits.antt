@@ -1,11 +1,9 @@
 -- The sizes that metamodels, rules and units keep.
-use Rattle.std.specs.Prelude.{ℕ, ◌+◌, ◌≤◌, List, length, ◌&&◌, eqb, max}
+use Rattle.std.specs.Prelude.{ℕ, ◌+◌, ◌≤◌, List, length, ◌&&◌, eqb}
 use Rattle.std.specs.List.{All, filter}
 use Rattle.hs_expr.specs.declared.expr.Expr.{Expr}
 use Rattle.hs_expr.specs.Evaluation.{nesting}
 use Rattle.hs_types.specs.declared.meta.Meta.{Meta}
-use Rattle.hs_types.specs.declared.rule.Multi.{Multi}
-use Rattle.hs_types.specs.declared.rule.Part.{Part}
 use Rattle.hs_types.specs.declared.rule.PatternEdge.{PatternEdge}
 use Rattle.hs_types.specs.declared.rule.PatternNode.{PatternNode}
 use Rattle.hs_types.specs.declared.rule.Rule.{Rule}
