@@ -1,5 +1,5 @@
 -- Lawful journals.
-use Rattle.std.proofs.Common.{ℕ, suc, zero, ◌+◌, ◌-◌, ◌<◌, ◌≤◌, ◌≡◌, inl, inr, List, [], ◌∷◌, ◌++◌, map, length, take, true, false, Option, Some, None, IsSomeAnd, IfSome, slice_get, refl, sym, ap, ◌∙◌, subst, arith, rules, zero-add}
+use Rattle.std.proofs.Common.{ℕ, suc, zero, ◌+◌, ◌-◌, ◌<◌, ◌≤◌, ◌≡◌, inl, inr, List, [], ◌∷◌, ◌++◌, map, length, take, true, false, Option, Some, None, IsSomeAnd, IfSome, slice_get, refl, sym, ap, ◌∙◌, subst, arith, rules, zero-add, ◌⊎◌}
 use Rattle.std.specs.List.{All, fold, range_with_len}
 use Rattle.std.specs.Option.{option_map, unwrap_or}
 use Rattle.std.proofs.lemmas.Bool.{cases_lt}
@@ -19,7 +19,7 @@ use Rattle.hs_types.specs.declared.meta.Meta.{Meta}
 use Rattle.hs_types.specs.declared.request.Args.{Args}
 use Rattle.hs_types.specs.declared.rule.Rule.{Rule}
 use Rattle.hs_types.specs.declared.unit.RuleSet.{RuleSet}
-use Rattle.hs_types.specs.Journal.{AreLawfulTries, Asks, EntryFailsBy, IsLawful, IsLawfulEntry, IsLawfulTry, IsLawfulWritten, IsUnlawfulAt, OneFailsBy, OutcomeAsks, after_entry, after_journal, after_outcome, after_tries, after_try, after_what, match_named, meta_of, rule_of, tries_in}
+use Rattle.hs_types.specs.Journal.{AreLawfulTries, Asks, EntryFailsBy, IsLawful, IsLawfulEntry, IsLawfulTry, IsLawfulWritten, IsUnlawfulAt, OneFailsBy, OutcomeAsks, after_entry, after_journal, after_outcome, after_tries, after_try, after_what, match_named, meta_of, rule_of, tries_in, IsNumbered, rank, FailsBy}
 use Rattle.hs_types.specs.Metamodel.{IsMeta}
 use Rattle.hs_types.specs.Plan.{plan_of}
 use Rattle.hs_types.specs.RuleForm.{IsRule}
@@ -225,3 +225,93 @@ IsUnlawfulAt-unlawful rules opening written position asked u l = go (slice_get w
         let same : entry.0 ≡ position = slice_get-range 0 (length written) position entry.0 first ∙ zero-add position in
         let lawful : IsLawfulEntry rules (take position (map second written)) (after_journal rules opening (take position (map second written))) position entry.1 = rw here at (l.1 position) in
         EntryFailsBy-unlawful rules before (after_journal rules opening before) entry.0 entry.1 asked f (subst (λ (n : ℕ). IsLawfulEntry rules before (after_journal rules opening before) n entry.1) (sym same) (subst (λ (es : List Entry). IsLawfulEntry rules es (after_journal rules opening es) position entry.1) (take-map second written position) lawful))
+
+-- Causes of one rank are one.
+rank-same : (c d : Cause) → rank c ≡ rank d → c ≡ d
+rank-same c d e = by_number (rank c) c d refl (sym e)
+  where
+    cause_at : ℕ → Cause
+    cause_at zero = cause.Number
+    cause_at (suc zero) = cause.Rule
+    cause_at (suc (suc zero)) = cause.Match
+    cause_at (suc (suc (suc zero))) = cause.Valid
+    cause_at (suc (suc (suc (suc zero)))) = cause.New
+    cause_at _ = cause.Old
+
+    back : (c : Cause) → cause_at (rank c) ≡ c
+    back cause.Number = refl
+    back cause.Rule = refl
+    back cause.Match = refl
+    back cause.Valid = refl
+    back cause.New = refl
+    back cause.Old = refl
+
+    by_number : (n : ℕ) (c d : Cause) → rank c ≡ n → rank d ≡ n → c ≡ d
+    by_number n c d a b = sym (back c) ∙ (ap cause_at (a ∙ sym b) ∙ back d)
+
+-- An attempt, and a list of them, fails by one cause.
+FailsBy-same : (rules : RuleSet) (g : Graph) (tried : Tried) (c d : Cause) → FailsBy rules g tried c → FailsBy rules g tried d → c ≡ d
+FailsBy-same rules g tried c d f h = elim (cases_lt (rank c) (rank d)) [
+  | inl l ↦ absurd (f.unmet (h.met c l))
+  | inr l ↦ elim (cases_lt (rank d) (rank c)) [
+    | inl k ↦ absurd (h.unmet (f.met d k))
+    | inr k ↦ rank-same c d (omega arith)
+  ]
+]
+
+OneFailsBy-same : (rules : RuleSet) (g : Graph) (tries : List Tried) (c d : Cause) → OneFailsBy rules g tries c → OneFailsBy rules g tries d → c ≡ d
+OneFailsBy-same rules g [] c d f h = absurd f
+OneFailsBy-same rules g (tried ∷ tries) c d (inl f) (inl h) = FailsBy-same rules g tried c d f h
+OneFailsBy-same rules g (tried ∷ tries) c d (inl f) (inr h) = absurd (f.unmet (h.0 c))
+OneFailsBy-same rules g (tried ∷ tries) c d (inr f) (inl h) = absurd (h.unmet (f.0 d))
+OneFailsBy-same rules g (tried ∷ tries) c d (inr f) (inr h) = OneFailsBy-same rules (after_try rules g tried) tries c d f.1 h.1
+
+-- What an entry that fails by a cause other than its numbers says.
+by_tries : (rules : RuleSet) (before : List Entry) (g : Graph) (place : ℕ) (entry : Entry) (c : Cause) → EntryFailsBy rules before g place entry c → (c ≡ cause.Number) ⊎ (IsNumbered before place entry × OneFailsBy rules g (tries_in entry.what) c)
+by_tries rules before g place entry cause.Number f = inl refl
+by_tries rules before g place entry cause.Rule f = inr f
+by_tries rules before g place entry cause.Match f = inr f
+by_tries rules before g place entry cause.Valid f = inr f
+by_tries rules before g place entry cause.New f = inr f
+by_tries rules before g place entry cause.Old f = inr f
+
+not_numbered : (rules : RuleSet) (before : List Entry) (g : Graph) (place : ℕ) (entry : Entry) (c : Cause) → c ≡ cause.Number → EntryFailsBy rules before g place entry c → IsNumbered before place entry → ⊥
+not_numbered rules before g place entry c e f = let k : EntryFailsBy rules before g place entry cause.Number = subst (EntryFailsBy rules before g place entry) e f in k
+
+EntryFailsBy-same : (rules : RuleSet) (before : List Entry) (g : Graph) (place : ℕ) (entry : Entry) (c d : Cause) → EntryFailsBy rules before g place entry c → EntryFailsBy rules before g place entry d → c ≡ d
+EntryFailsBy-same rules before g place entry c d f h = elim (by_tries rules before g place entry c f) [
+  | inl a ↦ elim (by_tries rules before g place entry d h) [
+    | inl b ↦ a ∙ sym b
+    | inr b ↦ absurd (not_numbered rules before g place entry c a f b.0)
+  ]
+  | inr a ↦ elim (by_tries rules before g place entry d h) [
+    | inl b ↦ absurd (not_numbered rules before g place entry d b h a.0)
+    | inr b ↦ OneFailsBy-same rules g (tries_in entry.what) c d a.1 b.1
+  ]
+]
+
+-- A written journal is unlawful first at one entry, and by one cause.
+take-prefix : (rules : RuleSet) (opening : Graph) (written : List (ℕ × Entry)) (n i : ℕ) → i < n → IsLawfulWritten rules opening (take n written) → (asked : Cause) → IsUnlawfulAt rules opening written i asked → ⊥
+take-prefix rules opening written n i l h asked u = IsUnlawfulAt-unlawful rules opening (take n written) i asked (record {
+  lawful_before = rw (take-take written n i (omega arith)) u.lawful_before;
+  fails = rw (slice_get-take written n i l, take-take written n i (omega arith)) u.fails;
+}) h
+
+pub IsUnlawfulAt-same : (rules : RuleSet) (opening : Graph) (written : List (ℕ × Entry)) (p q : ℕ) (c d : Cause) → IsUnlawfulAt rules opening written p c → IsUnlawfulAt rules opening written q d → (p ≡ q) × (c ≡ d)
+IsUnlawfulAt-same rules opening written p q c d u w = elim (cases_lt p q) [
+  | inl l ↦ absurd (take-prefix rules opening written q p l w.lawful_before c u)
+  | inr l ↦ elim (cases_lt q p) [
+    | inl k ↦ absurd (take-prefix rules opening written p q k u.lawful_before d w)
+    | inr k ↦ let same : p ≡ q = omega arith in (same, go (slice_get written p) refl u.fails (subst (λ (i : ℕ). Fails i d) (sym same) w.fails))
+  ]
+]
+  where
+    before : ℕ → List Entry
+    before i = map (λ e. e.1) (take i written)
+
+    Fails : ℕ → Cause → Type 0
+    Fails i asked = IsSomeAnd (slice_get written i) (λ e. EntryFailsBy rules (before i) (after_journal rules opening (before i)) e.0 e.1 asked)
+
+    go : (o : Option (ℕ × Entry)) → slice_get written p ≡ o → IsSomeAnd o (λ e. EntryFailsBy rules (before p) (after_journal rules opening (before p)) e.0 e.1 c) → Fails p d → c ≡ d
+    go None e f h = absurd f
+    go (Some entry) e f h = EntryFailsBy-same rules (before p) (after_journal rules opening (before p)) entry.0 entry.1 c d f (rw e at h)

@@ -249,3 +249,7 @@ opens_second = one 1 (tried 0 (args_of (object_arg (codes "c") (codes "c1") ∷ 
 
 abbrev pub client_with_one : Graph
 client_with_one = record client_with_new_account { objects = client 0 (codes "c1") ∷ account 1 (codes "#0") (pos 1) ∷ [] }
+
+-- true or (amount + 1 > 0)
+abbrev pub always_unless_it_overflows : Expr
+always_unless_it_overflows = expr.Binary sign.Or (expr.Literal (value.Bool true)) (expr.Binary sign.Greater (expr.Binary sign.Plus (expr.Param 2) (number (pos 1))) (number (pos 0)))

@@ -21,7 +21,7 @@ ghost use Rattle.hs_types.specs.Copies.{AreCopies, NoneTouch};
 ghost use Rattle.hs_types.specs.Journal.{IsLawful, IsLawfulWritten, IsUnlawfulAt, after_journal, meta_of, new_names, gone_objects};
 ghost use Rattle.hs_types.specs.Plan.{plan_of};
 ghost use Rattle.hs_types.specs.Step.{step};
-ghost use Rattle.hs_laws.specs.ModelB.{model, client, account, link, transfer, transfer_args, two_accounts, one_account, pair_with, three_with, at_match, lone, open_account, drop_client, unlink, two, add, touch, reset, own, alone, purge, sweep, owned_by_another, owned_by_a_third, args_of, object_arg, value_arg, number, nothing, just_client, client_with_new_account, two_clients, purge_args, copy, opens, adds, adds_first, opens_second, client_with_one};
+ghost use Rattle.hs_laws.specs.ModelB.{model, client, account, link, transfer, transfer_args, two_accounts, one_account, pair_with, three_with, at_match, lone, open_account, drop_client, unlink, two, add, touch, reset, own, alone, purge, sweep, owned_by_another, owned_by_a_third, args_of, object_arg, value_arg, number, nothing, just_client, client_with_new_account, two_clients, purge_args, copy, opens, adds, adds_first, opens_second, client_with_one, always_unless_it_overflows};
 ghost use Rattle.hs_laws.specs.Strange.{looped, family, abstract_object, slotless_account, client_for_account, reused_name, old_names};
 
 /// Metamodels: one that is, one whose class is its own supertype; conformance goes up alone; classes
@@ -93,12 +93,13 @@ pub fn arguments()
     ensures missing { ArgsFit add.params (args_of []) → ⊥ }
 {}
 
-/// Conditions: a sum that leaves EInt, a client that a forbid part finds, a client that it can't take
+/// Conditions: a sum that leaves EInt, one that leaves 64 bits beside `true or`, a client that a forbid part finds, a client that it can't take
 /// since the kernel has it, and one that a require part wants.
 pub fn conditions()
     ensures fits { AreFit model (env_of (one_account (pos 2147483646)) add (args_of []) add.shape.nodes (0 ∷ [])) add.sets }
     ensures leaves { AreFit model (env_of (one_account (pos 2147483647)) add (args_of []) add.shape.nodes (0 ∷ [])) add.sets → ⊥ }
     ensures too_much { AreTrue (env_of (two_accounts (pos 100) (pos 5)) transfer (transfer_args (pos 101)) transfer.shape.nodes (0 ∷ 1 ∷ [])) transfer.wheres → ⊥ }
+    ensures overflows { AreTrue (env_of (two_accounts (pos 100) (pos 5)) transfer (transfer_args (pos (2 ^ 63 - 1))) transfer.shape.nodes (0 ∷ 1 ∷ [])) (always_unless_it_overflows ∷ []) → ⊥ }
     ensures forbidden { IsAbsent model (pair_with (link 0 1 2 0 ∷ []) 1) reset (record { nodes = 1 ∷ []; edges = [] }) owned_by_another → ⊥ }
     ensures allowed { IsAbsent model (pair_with [] 0) reset (record { nodes = 1 ∷ []; edges = [] }) owned_by_another }
     ensures kernel_has_it { IsAbsent model (pair_with (link 0 1 2 0 ∷ []) 1) alone (record { nodes = 1 ∷ 0 ∷ []; edges = [] }) owned_by_a_third }

@@ -31,9 +31,12 @@ pub fn journals_go_on()
         → after_journal set opening (entries ++ entry ∷ []) ≡ after_entry set (after_journal set opening entries) entry }
 {}
 
-/// A written journal isn't both lawful and, for some cause, unlawful somewhere.
+/// A written journal isn't both lawful and, for some cause, unlawful somewhere; and where it isn't
+/// lawful, there is one first entry and one first cause.
 pub fn lawful_or_not()
-    ensures { (set : RuleSet) (opening : Graph) (written : List (ℕ × Entry)) (position : ℕ) (asked : Cause)
+    ensures one_cause { (set : RuleSet) (opening : Graph) (written : List (ℕ × Entry)) (p q : ℕ) (c d : Cause)
+        → IsUnlawfulAt set opening written p c → IsUnlawfulAt set opening written q d → (p ≡ q) × (c ≡ d) }
+    ensures not_both { (set : RuleSet) (opening : Graph) (written : List (ℕ × Entry)) (position : ℕ) (asked : Cause)
         → IsUnlawfulAt set opening written position asked → IsLawfulWritten set opening written → ⊥ }
 {}
 

@@ -1,4 +1,4 @@
-use Rattle.std.proofs.Common.{◌≡◌, [], ◌∷◌, Bool, true, false, Option, Some, IsSomeAnd, pos, refl, ap, rules, lit<}
+use Rattle.std.proofs.Common.{◌≡◌, [], ◌∷◌, Bool, true, false, Option, Some, None, IsSomeAnd, pos, refl, ap, rules, lit<}
 use Rattle.std.proofs.lemmas.Bool.{both_ways}
 use Rattle.hs_expr.specs.declared.expr.Expr.TheVariants as expr
 use Rattle.hs_expr.specs.declared.expr.Sign.TheVariants as sign
@@ -29,6 +29,7 @@ returns-clause-leaves c h = both_ways false refl (simp values at (h 0 (set_balan
 
 abbrev is_true : Option Value → Bool
 is_true (Some (value.Bool b)) = b
+is_true None = false
 is_true _ = true
 
 pub returns-clause-too_much : goal.returns-clause-too_much
@@ -42,3 +43,6 @@ returns-clause-forbidden c h = h (copy 0 0) found
 
 pub returns-clause-required : goal.returns-clause-required
 returns-clause-required c = (copy 0 0, found)
+
+pub returns-clause-overflows : goal.returns-clause-overflows
+returns-clause-overflows c h = both_ways false refl (ap is_true (simp values at (h 0 (number (pos 0)) (lit< tt))))

@@ -36,6 +36,7 @@ returns-clause-opening c = record {
   };
   objects_numbered = refl;
   edges_numbered = refl;
+  edges_in_order = tt;
   next_object = refl;
   next_edge = refl;
   next_name = λ k e. let same : 7 ≡ k = omega arith in (0, client 0 (codes "#7"), lit< tt, refl, ap hash_name same);
