@@ -14,3 +14,4 @@ pub mod Earlier
 pub mod Stepped
 pub mod Lawful
 pub mod Fitting
+pub mod ValueKinds

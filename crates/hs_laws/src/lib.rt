@@ -6,6 +6,7 @@
 #![tactic(auto)]
 
 mod conformance;
+mod evaluation;
 mod examples;
 mod journals;
 mod order;
@@ -13,6 +14,7 @@ mod sparing;
 mod steps;
 
 pub use conformance::conformance_is_an_order;
+pub use evaluation::{values_by_form, values_have_their_kinds};
 pub use examples::{
     arguments, conditions, copies, dangling, expressions, graphs, journals_told, metamodels,
     orders, plain_matches, steps_made, transfers,
