@@ -31,7 +31,7 @@ use Rattle.hs_types.specs.declared.rule.SlotKind.TheVariants.{Attribute}
 use Rattle.hs_types.specs.Conditions.{AreFit, env_of}
 use Rattle.hs_types.specs.Copies.{Copy, copies_of, copy_env, images_of, nodes_of}
 use Rattle.hs_types.specs.Lists.{has}
-use Rattle.hs_types.specs.Metamodel.{Conforms, IsConcrete, IsMeta, IsSound, attributes_of, default_of, default_of_kind, feature_at, features_of, fits, is_of_type, target_of, type_of, type_of_kind}
+use Rattle.hs_types.specs.Metamodel.{Conforms, IsConcrete, IsMeta, FeatureFits, attributes_of, default_of, default_of_kind, feature_at, features_of, fits, is_of_type, target_of, type_of, type_of_kind}
 use Rattle.hs_types.specs.Pattern.{is_drop, is_left, is_make, made_edges, made_nodes, node_is}
 use Rattle.hs_types.specs.Plan.{CanBeMade, EndIs, SlotFits, copy_edges, copy_end, copy_objects, copy_writes, edges_for, end_of, made_slots, objects_for, plan_of, value_set, writes_of}
 use Rattle.hs_types.specs.PlainMatch.{image, kernel_of}
@@ -72,7 +72,7 @@ writes_fit m env nodes images sets h = All-filter_map W write (filter q sets) (A
 default-fits : (m : Meta) (a : ℕ) → IsMeta m → IsSome (type_of m a) → IsSomeAnd (default_of m a) (λ v. fits m a v ≡ true)
 default-fits m a w h = go (feature_at m a) refl h
   where
-    of_kind : (k : FeatureKind) → IsSome (type_of_kind k) → IsSound m k → IsSomeAnd (default_of_kind k) (λ v. unwrap_or (option_map (λ t. is_of_type t v) (type_of_kind k)) false ≡ true)
+    of_kind : (k : FeatureKind) → IsSome (type_of_kind k) → FeatureFits m k → IsSomeAnd (default_of_kind k) (λ v. unwrap_or (option_map (λ t. is_of_type t v) (type_of_kind k)) false ≡ true)
     of_kind (feature.Attribute t v) h s = s
     of_kind (feature.Reference target containment lower upper) h s = absurd (both_ways false refl h)
 
@@ -80,10 +80,10 @@ default-fits m a w h = go (feature_at m a) refl h
     go None e h = absurd (both_ways false refl h)
     go (Some f) e h = rw e (of_kind f.kind h (sound m.features a f w.features_sound e))
       where
-        sound : (fs : List Feature) (i : ℕ) (f : Feature) → All (λ f. IsSound m f.kind) fs → slice_get fs i ≡ Some f → IsSound m f.kind
+        sound : (fs : List Feature) (i : ℕ) (f : Feature) → All (λ f. FeatureFits m f.kind) fs → slice_get fs i ≡ Some f → FeatureFits m f.kind
         sound [] i f a h = absurd (cc)
-        sound (x ∷ xs) zero f a h = let same : x ≡ f = cc in subst (λ (f : Feature). IsSound m f.kind) same (All-head (λ f. IsSound m f.kind) x xs a)
-        sound (x ∷ xs) (suc i) f a h = sound xs i f (All-tail (λ f. IsSound m f.kind) x xs a) h
+        sound (x ∷ xs) zero f a h = let same : x ≡ f = cc in subst (λ (f : Feature). FeatureFits m f.kind) same (All-head (λ f. FeatureFits m f.kind) x xs a)
+        sound (x ∷ xs) (suc i) f a h = sound xs i f (All-tail (λ f. FeatureFits m f.kind) x xs a) h
 
 -- Each attribute of a made object has a value that fits.
 slot-fits : (m : Meta) (env : Env) (sets : List SetItem) (n a : ℕ) → IsMeta m → AreFit m env sets → IsSome (type_of m a) → IsSomeAnd (option_or (value_set env sets n a) (default_of m a)) (λ v. fits m a v ≡ true)

@@ -27,7 +27,7 @@ use Rattle.hs_types.specs.declared.rule.Shape.{Shape}
 use Rattle.hs_types.specs.declared.rule.SlotKind.TheVariants.{Attribute}
 use Rattle.hs_types.specs.Arguments.{Follows, object_given}
 use Rattle.hs_types.specs.Conditions.{AreFit, AreTrue, IsAbsent, IsPresent, env_of}
-use Rattle.hs_types.specs.Copies.{AreCopies, Copy, IsCopy, copies_from, copies_of, copy_env, images_of, nodes_of}
+use Rattle.hs_types.specs.Copies.{AreCopies, Copy, CopyFits, IsCopy, copies_from, copies_of, copy_env, images_of, nodes_of}
 use Rattle.hs_types.specs.Lists.{has, Apart}
 use Rattle.hs_types.specs.Metamodel.{attributes_of, default_of, fits}
 use Rattle.hs_types.specs.Pattern.{is_kind, is_make, left_nodes, no_shape, node_is, shape_of}
@@ -136,7 +136,6 @@ AreCopies-kept m g p rule args f multi xs reads h stay own unwritten leaves k = 
   each = All-weaker (λ x. S x × C x) (IsCopy m (step g p) rule args f multi) (λ x i. (Extends-kept m g p rule.shape f multi.shape x i.0.0 i.0.1 i.1.0, AreTrue-same (env g x) (env (step g p) x) multi.wheres (trues x i.1.0 i.0.0) i.1.1)) xs (All-both S C xs own k.each);
   whole = λ x i. k.whole x (back x i);
   in_order = k.in_order;
-  sets_fit = All-weaker (λ x. S x × (C x × AreFit m (env g x) multi.sets)) (λ x. AreFit m (env (step g p) x) multi.sets) (λ x i. AreFit-same m (env g x) (env (step g p) x) multi.sets (sets x i.1.0.0 i.0.0) i.1.1) xs (All-both S (λ x. C x × AreFit m (env g x) multi.sets) xs own (All-both C (λ x. AreFit m (env g x) multi.sets) xs k.each k.sets_fit));
 }
   where
     S : Extension → Type 0
@@ -157,9 +156,6 @@ AreCopies-kept m g p rule args f multi xs reads h stay own unwritten leaves k = 
     trues : (x : Extension) → Extends m g rule.shape f multi.shape x → Apart x.nodes p.drop_objects → All (Same (env g x) (env (step g p) x)) multi.wheres
     trues x e d = wheres-same (env g x) (env (step g p) x) (λ n. refl) multi.wheres multi.sets (agree x e d)
 
-    sets : (x : Extension) → Extends m g rule.shape f multi.shape x → Apart x.nodes p.drop_objects → SetsSame (env g x) (env (step g p) x) multi.sets
-    sets x e d = sets-same (env g x) (env (step g p) x) (λ n. refl) multi.wheres multi.sets (agree x e d)
-
     back : (x : Extension) → IsCopy m (step g p) rule args f multi x → C x
     back x i = let e = Extends-unmade m g p rule.shape f multi.shape x leaves.makes i.0 in
         (e.0, AreTrue-same (env (step g p) x) (env g x) multi.wheres (All-weaker (Same (env g x) (env (step g p) x)) (Same (env (step g p) x) (env g x)) (λ expr s. sym s) multi.wheres (trues x e.0 e.1)) i.1)
@@ -177,16 +173,15 @@ copies-kept m g p rule args f (multi ∷ multis) (xs ∷ lists) reads h stay own
     )
 
 -- Each copy of a valid match is a copy of a multi-rule of the rule, of which what holds of all of them holds.
-pub copies_each : (m : Meta) (g : Graph) (rule : Rule) (args : Args) (f : Extension) (R : Multi → Type 0) (multis : List Multi) (lists : List (List Extension)) → All R multis → AllZip (AreCopies m g rule args f) multis lists → All (λ copy. R copy.multi × IsCopy m g rule args f copy.multi copy.found × AreFit m (copy_env g rule args f copy) copy.multi.sets) (copies_from multis lists)
-copies_each m g rule args f R [] [] a k = All-nil (λ copy. R copy.multi × IsCopy m g rule args f copy.multi copy.found × AreFit m (copy_env g rule args f copy) copy.multi.sets)
+pub copies_each : (m : Meta) (g : Graph) (rule : Rule) (args : Args) (f : Extension) (R : Multi → Type 0) (multis : List Multi) (lists : List (List Extension)) → All R multis → AllZip (AreCopies m g rule args f) multis lists → All (λ copy. R copy.multi × IsCopy m g rule args f copy.multi copy.found) (copies_from multis lists)
+copies_each m g rule args f R [] [] a k = All-nil (λ copy. R copy.multi × IsCopy m g rule args f copy.multi copy.found)
 copies_each m g rule args f R [] (xs ∷ lists) a k = absurd k
 copies_each m g rule args f R (multi ∷ multis) [] a k = absurd k
 copies_each m g rule args f R (multi ∷ multis) (xs ∷ lists) a k =
-    let C : Copy → Type 0 = λ copy. R copy.multi × IsCopy m g rule args f copy.multi copy.found × AreFit m (copy_env g rule args f copy) copy.multi.sets in
+    let C : Copy → Type 0 = λ copy. R copy.multi × IsCopy m g rule args f copy.multi copy.found in
     let made : Extension → Copy = λ x. record { multi = multi; found = x } in
     let I : Extension → Type 0 = IsCopy m g rule args f multi in
-    let F : Extension → Type 0 = λ x. AreFit m (copy_env g rule args f (made x)) multi.sets in
-    All-append C (map made xs) (copies_from multis lists) (All-map C made xs (All-weaker (λ x. I x × F x) (λ x. C (made x)) (λ x i. (All-head R multi multis a, i.0, i.1)) xs (All-both I F xs k.0.each k.0.sets_fit)))
+    All-append C (map made xs) (copies_from multis lists) (All-map C made xs (All-weaker I (λ x. C (made x)) (λ x i. (All-head R multi multis a, i)) xs k.0.each))
     (copies_each m g rule args f R multis lists (All-tail R multi multis a) k.1)
 
 supported-kept : (m : Meta) (g : Graph) (p : Plan) (s : Shape) (f : Extension) (needs : List Part) (xs : List Extension) → Apart (flat_map (λ x. x.nodes) xs) p.drop_objects → Apart (flat_map (λ x. x.edges) xs) p.drop_edges → AllZip (λ part x. Extends m g s f (shape_of part) x) needs xs → AllZip (λ part x. Extends m (step g p) s f (shape_of part) x) needs xs
@@ -206,6 +201,32 @@ supported-present m g rule f [] (x ∷ xs) h = absurd h
 supported-present m g rule f (t ∷ ts) [] h = absurd h
 supported-present m g rule f (t ∷ ts) (x ∷ xs) h = All-cons (IsPresent m g rule f) t ts (x, h.0) (supported-present m g rule f ts xs h.1)
 
+-- What the copies of a spared match set stays.
+abbrev CopySame : Graph → Plan → Rule → Args → Extension → Copy → Type 0
+CopySame g p rule args f copy = SetsSame (copy_env g rule args f copy) (copy_env (step g p) rule args f copy) copy.multi.sets
+
+copies-same_sets : (m : Meta) (g : Graph) (p : Plan) (rule : Rule) (args : Args) (f : Match) (supports : List Extension) → IsRule m rule → IsSupported m g rule args f supports → Spares m g p rule f supports → All (CopySame g p rule args (kernel_of f)) (copies_of rule f)
+copies-same_sets m g p rule args f supports w v l = All-weaker (λ copy. (R copy.multi × IsCopy m g rule args k copy.multi copy.found) × Apart copy.found.nodes p.drop_objects) (CopySame g p rule args k) (λ copy i. sets-same (copy_env g rule args k copy) (copy_env (step g p) rule args k copy) (λ n. refl) copy.multi.wheres copy.multi.sets (copy-agree m g p rule args k copy i.0.0.0 v.valid.plain i.0.1.0 stay i.1 l.slots i.0.0.1)) copies
+    (All-both (λ copy. R copy.multi × IsCopy m g rule args k copy.multi copy.found) (λ copy. Apart copy.found.nodes p.drop_objects) copies (copies_each m g rule args k R rule.multis f.copies (All-both (λ multi. All (ReadsMulti rule multi) (reads_in multi.wheres multi.sets)) (LeavesKinds m p) rule.multis (multi_read m rule w) l.multis) v.valid.copies) (All-of_flat_map (Stays p.drop_objects) (λ copy. copy.found.nodes) copies (All-rest_of (Stays p.drop_objects) f.nodes ns nodes)))
+  where
+    k : Extension
+    k = kernel_of f
+
+    copies : List Copy
+    copies = copies_of rule f
+
+    ns : List ℕ
+    ns = flat_map (λ copy. copy.found.nodes) copies
+
+    nodes : Apart (f.nodes ++ ns) p.drop_objects
+    nodes = All-front (Stays p.drop_objects) (f.nodes ++ ns) (flat_map (λ x. x.nodes) supports) l.objects
+
+    stay : Apart f.nodes p.drop_objects
+    stay = All-front (Stays p.drop_objects) f.nodes ns nodes
+
+    R : Multi → Type 0
+    R multi = All (ReadsMulti rule multi) (reads_in multi.wheres multi.sets) × LeavesKinds m p multi
+
 -- The theorem: a plan that spares a supported match leaves it supported.
 pub IsSupported-kept : (m : Meta) (g : Graph) (p : Plan) (rule : Rule) (args : Args) (f : Match) (supports : List Extension) → IsRule m rule → IsSupported m g rule args f supports → Spares m g p rule f supports → IsSupported m (step g p) rule args f supports
 IsSupported-kept m g p rule args f supports w v l = record {
@@ -218,6 +239,7 @@ IsSupported-kept m g p rule args f supports w v l = record {
     forbids = All-weaker (λ t. IsAbsent m g rule k t × ((x : Extension) → Extends m (step g p) rule.shape k (shape_of t) x → IsOld g x)) (IsAbsent m (step g p) rule k) (λ t i x e. i.0 x (Extends-old m g p rule.shape k (shape_of t) x (i.1 x e) e)) rule.forbids (All-both (IsAbsent m g rule k) (λ t. (x : Extension) → Extends m (step g p) rule.shape k (shape_of t) x → IsOld g x) rule.forbids v.valid.forbids l.forbids);
     needs = supported-present m (step g p) rule k rule.needs supports supported;
     copies = copies-kept m g p rule args k rule.multis f.copies (multi_read m rule w) h stay own l.slots l.multis v.valid.copies;
+    copies_fit = All-weaker (λ copy. CopySame g p rule args k copy × CopyFits m g rule args k copy) (CopyFits m (step g p) rule args k) (λ copy i. AreFit-same m (copy_env g rule args k copy) (copy_env (step g p) rule args k copy) copy.multi.sets i.0 i.1) (copies_of rule f) (All-both (CopySame g p rule args k) (CopyFits m g rule args k) (copies_of rule f) (copies-same_sets m g p rule args f supports w v l) v.valid.copies_fit);
     none_touch = v.valid.none_touch;
   };
   supported = supported;
@@ -292,14 +314,10 @@ plan_of-kept m g p rule args f supports w v l = sym (rw (writes_of-same before a
     sets = sets-same before after (λ n. refl) rule.wheres rule.sets (kernel-agree m g p rule args k (kernel_read m rule w) v.valid.plain stay l.slots)
 
     C : Copy → Type 0
-    C copy = SetsSame (copy_env g rule args k copy) (copy_env (step g p) rule args k copy) copy.multi.sets
-
-    R : Multi → Type 0
-    R multi = All (ReadsMulti rule multi) (reads_in multi.wheres multi.sets) × LeavesKinds m p multi
+    C = CopySame g p rule args k
 
     same : All C copies
-    same = All-weaker (λ copy. (R copy.multi × IsCopy m g rule args k copy.multi copy.found × AreFit m (copy_env g rule args k copy) copy.multi.sets) × Apart copy.found.nodes p.drop_objects) C (λ copy i. sets-same (copy_env g rule args k copy) (copy_env (step g p) rule args k copy) (λ n. refl) copy.multi.wheres copy.multi.sets (copy-agree m g p rule args k copy i.0.0.0 v.valid.plain i.0.1.0 stay i.1 l.slots i.0.0.1)) copies
-        (All-both (λ copy. R copy.multi × IsCopy m g rule args k copy.multi copy.found × AreFit m (copy_env g rule args k copy) copy.multi.sets) (λ copy. Apart copy.found.nodes p.drop_objects) copies (copies_each m g rule args k R rule.multis f.copies (All-both (λ multi. All (ReadsMulti rule multi) (reads_in multi.wheres multi.sets)) (LeavesKinds m p) rule.multis (multi_read m rule w) l.multis) v.valid.copies) (All-of_flat_map (Stays p.drop_objects) (λ copy. copy.found.nodes) copies (All-rest_of (Stays p.drop_objects) f.nodes ns nodes)))
+    same = copies-same_sets m g p rule args f supports w v l
 
     written : All (λ copy. copy_writes g rule args k copy ≡ copy_writes (step g p) rule args k copy) copies
     written = All-weaker C (λ copy. copy_writes g rule args k copy ≡ copy_writes (step g p) rule args k copy) (λ copy s. writes_of-same (copy_env g rule args k copy) (copy_env (step g p) rule args k copy) (nodes_of rule copy.multi) (images_of k copy.found) copy.multi.sets s) copies same

@@ -10,7 +10,7 @@ use Rattle.hs_types.specs.declared.request.Args.{Args}
 use Rattle.hs_types.specs.declared.rule.PatternNode.{PatternNode}
 use Rattle.hs_types.specs.declared.rule.Rule.{Rule}
 use Rattle.hs_types.specs.Conditions.{AreFit}
-use Rattle.hs_types.specs.Copies.{Copy, IsCopy, SparesCopy, copies_of, copy_env}
+use Rattle.hs_types.specs.Copies.{Copy, CopyFits, IsCopy, SparesCopy, copies_of, copy_env}
 use Rattle.hs_types.specs.Dangling.{dropped_nodes}
 use Rattle.hs_types.specs.Lists.{has, EachPair}
 use Rattle.hs_types.specs.Pattern.{is_drop, is_left, left_nodes}
@@ -28,7 +28,7 @@ pub record CopyIs (m : Meta) (g : Graph) (rule : Rule) (args : Args) (f : Extens
   pub sets_fit : AreFit m (copy_env g rule args f copy) copy.multi.sets
 
 pub copies_are : (m : Meta) (g : Graph) (rule : Rule) (args : Args) (f : Match) → IsRule m rule → IsValid m g rule args f → All (CopyIs m g rule args (kernel_of f)) (copies_of rule f)
-copies_are m g rule args f w v = All-weaker (λ copy. IsMulti m rule copy.multi × IsCopy m g rule args (kernel_of f) copy.multi copy.found × AreFit m (copy_env g rule args (kernel_of f) copy) copy.multi.sets) (CopyIs m g rule args (kernel_of f)) (λ copy i. record { multi = i.0; extends = i.1; sets_fit = i.2 }) (copies_of rule f) (copies_each m g rule args (kernel_of f) (IsMulti m rule) rule.multis f.copies w.multis v.copies)
+copies_are m g rule args f w v = All-weaker (λ copy. (IsMulti m rule copy.multi × IsCopy m g rule args (kernel_of f) copy.multi copy.found) × CopyFits m g rule args (kernel_of f) copy) (CopyIs m g rule args (kernel_of f)) (λ copy i. record { multi = i.0.0; extends = i.0.1; sets_fit = i.1 }) (copies_of rule f) (All-both (λ copy. IsMulti m rule copy.multi × IsCopy m g rule args (kernel_of f) copy.multi copy.found) (CopyFits m g rule args (kernel_of f)) (copies_of rule f) (copies_each m g rule args (kernel_of f) (IsMulti m rule) rule.multis f.copies w.multis v.copies) v.copies_fit)
 
 abbrev dropped_by : Copy → List ℕ
 dropped_by copy = dropped_nodes copy.multi.shape copy.found

@@ -8,7 +8,7 @@ use Rattle.hs_types.specs.declared.request.Args.{Args}
 use Rattle.hs_types.specs.declared.rule.Rule.{Rule}
 use Rattle.hs_types.specs.Arguments.{Follows}
 use Rattle.hs_types.specs.Conditions.{env_of, AreTrue, AreFit, IsAbsent, IsPresent}
-use Rattle.hs_types.specs.Copies.{AreCopies, NoneTouch, copies_of}
+use Rattle.hs_types.specs.Copies.{AreCopies, CopyFits, NoneTouch, copies_of}
 use Rattle.hs_types.specs.Dangling.{dropped_nodes, dropped_edges, NoneDangle}
 use Rattle.hs_types.specs.MatchOrder.{IsEarlier}
 use Rattle.hs_types.specs.Pattern.{left_nodes}
@@ -31,6 +31,7 @@ pub record IsValid (m : Meta) (g : Graph) (rule : Rule) (args : Args) (f : Match
   pub forbids : All (IsAbsent m g rule (kernel_of f)) rule.forbids
   pub needs : All (IsPresent m g rule (kernel_of f)) rule.needs
   pub copies : AllZip (AreCopies m g rule args (kernel_of f)) rule.multis f.copies
+  pub copies_fit : All (CopyFits m g rule args (kernel_of f)) (copies_of rule f)
   pub none_touch : NoneTouch rule f
 
 abbrev pub NoneIsValid : Meta → Graph → Rule → Args → Type 0

@@ -44,7 +44,8 @@ returns-clause-none c = record {
   sets_fit = search rules;
   forbids = search rules;
   needs = search rules;
-  copies = (record { each = search rules; whole = λ x i. absurd (no_copy x.nodes x.edges i); in_order = search rules; sets_fit = search rules }, tt);
+  copies = (record { each = search rules; whole = λ x i. absurd (no_copy x.nodes x.edges i); in_order = search rules }, tt);
+  copies_fit = search rules;
   none_touch = search rules;
 }
 
@@ -93,7 +94,6 @@ both_copies = record {
   each = All-two (IsCopy model linked purge purge_args (copies_kernel 2) client_of) (copy 0 0) (copy 1 1) first_copy second_copy;
   whole = λ x i. one_of_two x.nodes x.edges i;
   in_order = search rules;
-  sets_fit = search rules;
 }
 
 pub returns-clause-both : goal.returns-clause-both
@@ -106,6 +106,7 @@ returns-clause-both c = record {
   forbids = search rules;
   needs = search rules;
   copies = (both_copies, tt);
+  copies_fit = search rules;
   none_touch = (All-one S (made 1) (spares 0 1 (search rules), spares 1 0 (search rules)), (All-nil T, tt));
 }
   where

@@ -37,6 +37,7 @@ opens_valid = record {
   forbids = search rules;
   needs = search rules;
   copies = search rules;
+  copies_fit = search rules;
   none_touch = search rules;
 }
 
@@ -50,6 +51,7 @@ adds_valid = record {
   forbids = search rules;
   needs = search rules;
   copies = search rules;
+  copies_fit = search rules;
   none_touch = search rules;
 }
   where

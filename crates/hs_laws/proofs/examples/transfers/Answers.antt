@@ -28,6 +28,7 @@ returns-clause-valid c = record {
   forbids = search rules;
   needs = search rules;
   copies = search rules;
+  copies_fit = search rules;
   none_touch = search rules;
 }
   where
