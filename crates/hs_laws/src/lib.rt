@@ -14,7 +14,7 @@ mod sparing;
 mod steps;
 
 pub use conformance::conformance_is_an_order;
-pub use evaluation::{values_by_form, values_have_their_kinds};
+pub use evaluation::{no_value_means_overflow, values_by_form, values_have_their_kinds};
 pub use examples::{
     arguments, conditions, copies, dangling, expressions, graphs, journals_told, metamodels,
     orders, plain_matches, steps_made, transfers,
