@@ -1,0 +1,2 @@
+pub mod ModelB
+pub mod Strange
