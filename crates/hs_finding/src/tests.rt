@@ -58,6 +58,21 @@ fn graph_of(alloc: Global, classes: &[u16], joins: &[(u32, u32)]) -> Result<Grap
 
 /// A rule that keeps nodes of these classes and edges between them.
 fn rule_of(alloc: Global, classes: &[u16], joins: &[(u16, u16)]) -> Result<Rule, AllocError> {
+    let name = Text::from_str(alloc, "rule")?;
+    let shape = shape_of(alloc, classes, joins)?;
+    Ok(Rule {
+        name,
+        params: List::new(alloc),
+        shape,
+        forbids: List::new(alloc),
+        needs: List::new(alloc),
+        multis: List::new(alloc),
+        wheres: List::new(alloc),
+        sets: List::new(alloc),
+    })
+}
+
+fn shape_of(alloc: Global, classes: &[u16], joins: &[(u16, u16)]) -> Result<Shape, AllocError> {
     let mut nodes = List::new(alloc);
     for class in classes {
         nodes.push(PatternNode {
@@ -75,19 +90,10 @@ fn rule_of(alloc: Global, classes: &[u16], joins: &[(u16, u16)]) -> Result<Rule,
             mark: Mark::Keep,
         })?;
     }
-    Ok(Rule {
-        name: Text::from_str(alloc, "rule")?,
-        params: List::new(alloc),
-        shape: Shape {
-            nodes,
-            edges,
-            slots: List::new(alloc),
-        },
-        forbids: List::new(alloc),
-        needs: List::new(alloc),
-        multis: List::new(alloc),
-        wheres: List::new(alloc),
-        sets: List::new(alloc),
+    Ok(Shape {
+        nodes,
+        edges,
+        slots: List::new(alloc),
     })
 }
 
@@ -99,19 +105,21 @@ fn is(found: &Option<Match>, nodes: &[u32], edges: &[u32]) -> bool {
     }
 }
 
-fn find(
+/// Whether the least match of the nodes and edges, in the graph of these objects and edges, is this
+/// one. The class 1 is below the class 0, and the class 2 stands alone.
+fn finds(
     alloc: Global,
-    classes: &[u16],
-    joins: &[(u32, u32)],
-    rule: &Rule,
-) -> Result<Option<Match>, AllocError> {
-    // The class 1 is below the class 0, and the class 2 stands alone.
+    objects: (&[u16], &[(u32, u32)]),
+    pattern: (&[u16], &[(u16, u16)]),
+    want: (&[u32], &[u32]),
+) -> Result<bool, AllocError> {
     let meta = meta_of(alloc, &[&[], &[0], &[]])?;
-    let graph = graph_of(alloc, classes, joins)?;
-    if is_in_order(&graph) && is_small(&rule.shape) && only_adds(rule) {
-        first_match(alloc, &meta, &graph, rule)
+    let graph = graph_of(alloc, objects.0, objects.1)?;
+    let rule = rule_of(alloc, pattern.0, pattern.1)?;
+    if is_in_order(&graph) && is_small(&rule.shape) && only_adds(&rule) {
+        Ok(is(&first_match(alloc, &meta, &graph, &rule)?, want.0, want.1))
     } else {
-        Ok(None)
+        Ok(false)
     }
 }
 
@@ -132,45 +140,29 @@ fn climbs_to_supertypes(rt: HostRuntime) -> Result<(), AllocError> {
 
 #[test]
 fn finds_the_least(rt: HostRuntime) -> Result<(), AllocError> {
-    let alloc = rt.alloc();
-    let joined = rule_of(alloc, &[0, 2], &[(0, 1)])?;
-    let found = find(
-        alloc,
-        &[2, 0, 1, 2],
-        &[(2, 3), (2, 0), (1, 3), (1, 3)],
-        &joined,
-    )?;
-    assert!(rt; is(&found, &[1, 3], &[2]));
-    let back = rule_of(alloc, &[2, 0], &[(1, 0)])?;
-    let found = find(
-        alloc,
-        &[2, 0, 1, 2],
-        &[(2, 3), (2, 0), (1, 3), (1, 3)],
-        &back,
-    )?;
-    assert!(rt; is(&found, &[0, 2], &[1]));
+    let graph: (&[u16], &[(u32, u32)]) = (&[2, 0, 1, 2], &[(2, 3), (2, 0), (1, 3), (1, 3)]);
+    assert!(rt; finds(rt.alloc(), graph, (&[0, 2], &[(0, 1)]), (&[1, 3], &[2]))?);
+    assert!(rt; finds(rt.alloc(), graph, (&[2, 0], &[(1, 0)]), (&[0, 2], &[1]))?);
     Ok(())
 }
 
 #[test]
 fn takes_nothing_twice(rt: HostRuntime) -> Result<(), AllocError> {
-    let alloc = rt.alloc();
-    let twice = rule_of(alloc, &[0, 2], &[(0, 1), (0, 1)])?;
-    let found = find(alloc, &[0, 2], &[(0, 1)], &twice)?;
-    assert!(rt; found.is_none());
-    let found = find(alloc, &[0, 2], &[(0, 1), (0, 1)], &twice)?;
-    assert!(rt; is(&found, &[0, 1], &[0, 1]));
-    let apart = rule_of(alloc, &[0, 0], &[])?;
-    let found = find(alloc, &[0], &[], &apart)?;
-    assert!(rt; found.is_none());
+    let twice: (&[u16], &[(u16, u16)]) = (&[0, 2], &[(0, 1), (0, 1)]);
+    assert!(rt; !finds(rt.alloc(), (&[0, 2], &[(0, 1)]), twice, (&[0, 1], &[0, 0]))?);
+    assert!(rt;
+        finds(
+            rt.alloc(),
+            (&[0, 2], &[(0, 1), (0, 1)]),
+            twice,
+            (&[0, 1], &[0, 1])
+        )?
+    );
     Ok(())
 }
 
 #[test]
 fn matches_nothing_by_nothing(rt: HostRuntime) -> Result<(), AllocError> {
-    let alloc = rt.alloc();
-    let empty = rule_of(alloc, &[], &[])?;
-    let found = find(alloc, &[], &[], &empty)?;
-    assert!(rt; is(&found, &[], &[]));
+    assert!(rt; finds(rt.alloc(), (&[], &[]), (&[], &[]), (&[], &[]))?);
     Ok(())
 }
