@@ -7,9 +7,10 @@ use Rattle.std.proofs.lemmas.Grind.{common_steps}
 use Rattle.std.proofs.lemmas.List.{append-nil, length_push, take_at, drop_at, take-append-drop, length-take-le, take-append-le, drop-append-le}
 use Rattle.std.proofs.lemmas.List.Elements.{All-append, All-cons, All-nil}
 use Rattle.std.proofs.lemmas.Option.{slice_get_past, slice_get_within, slice_get_cases}
-use Rattle.std.proofs.lemmas.Slice.Zip.{AllZip-left}
+use Rattle.std.proofs.lemmas.Slice.Zip.{AllZip-left, AllZip-long}
 use Rattle.std.proofs.Math.Seq.{get_or-append_seam, take-append-add}
 use Rattle.hs_search.specs.Choice.{EachFits, IsChoice}
+use Rattle.hs_types.specs.declared.matching.Extension.{Extension}
 use Rattle.hs_types.specs.declared.rule.PatternEdge.{PatternEdge}
 use Rattle.hs_types.specs.declared.rule.PatternNode.{PatternNode}
 use Rattle.hs_types.specs.Lists.{has, Differ}
@@ -20,7 +21,7 @@ use Rattle.hs_finding.specs.Candidates.{IsFree, IsNext}
 use Rattle.hs_finding.specs.declared.link.Link.{Link}
 use Rattle.hs_finding.specs.Linked.{IsLinked}
 use Rattle.hs_finding.proofs.Scans.{some_and}
-use Rattle.hs_finding.specs.Extending.{Sought, split, AreImages, EdgeFits, Fits, FitsAs, NoObject}
+use Rattle.hs_finding.specs.Extending.{Sought, shape, split, AreImages, EdgeFits, Fits, FitsAs, NoObject}
 
 -- what comes after has none of the numbers before it
 pub Differ-at : (us : List ℕ) (y : ℕ) (vs : List ℕ) → Differ (us ++ y ∷ vs) → has us y ≡ false
@@ -135,6 +136,17 @@ fits_good s all whole h dn de =
 
 take_behind : (front : List ℕ) (y : ℕ) (rest : List ℕ) (n m : ℕ) → n ≡ length front + suc m → take n (front ++ y ∷ rest) ≡ front ++ y ∷ take m rest
 take_behind front y rest n m e = rw e (take-append-add front (y ∷ rest) (suc m))
+
+-- an extension is a choice
+pub extension_choice : (s : Sought) (x : Extension) → Extends s.meta s.graph (shape s.base_nodes []) s.base (shape s.nodes s.edges) x →
+    IsChoice (length (left_nodes s.nodes) + length (left_edges s.edges)) (AreImages s) (x.nodes ++ x.edges)
+extension_choice s x extends =
+    let wn : length x.nodes ≡ length (left_nodes s.nodes) = AllZip-long _ (left_nodes s.nodes) x.nodes extends.nodes_fit in
+    let we : length x.edges ≡ length (left_edges s.edges) = AllZip-long _ (left_edges s.edges) x.edges extends.edges_fit in
+    let t : take (length (left_nodes s.nodes)) (x.nodes ++ x.edges) ≡ x.nodes = take_at x.nodes x.edges (length (left_nodes s.nodes)) wn in
+    let d : drop (length (left_nodes s.nodes)) (x.nodes ++ x.edges) ≡ x.edges = drop_at x.nodes x.edges (length (left_nodes s.nodes)) wn in
+    let same : split s (x.nodes ++ x.edges) ≡ x = rw (t, d) refl in
+    record { whole = omega (arith, length-append x.nodes x.edges); good = rw same extends }
 
 -- in a choice the number behind these is a free object of the next node's class
 pub node_in_choice : (s : Sought) (size : ℕ) (front : List ℕ) (y : ℕ) (rest : List ℕ) (node : PatternNode) → slice_get (left_nodes s.nodes) (length front) ≡ Some node →

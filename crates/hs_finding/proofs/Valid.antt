@@ -5,6 +5,7 @@ use Rattle.std.proofs.lemmas.Grind.{common_steps}
 use Rattle.std.proofs.lemmas.List.{append-nil, take_at, drop_at, take-append-drop, length-take-le}
 use Rattle.std.proofs.lemmas.List.Elements.{All-nil, All-head, All-tail, All-filter}
 use Rattle.std.proofs.lemmas.Slice.Zip.{AllZip-long}
+use Rattle.arrayvec.specs.ArrayVec.{ArrayVec}
 use Rattle.hs_search.specs.Choice.{IsBelow, IsChoice, IsLeast, IsNone}
 use Rattle.hs_types.specs.declared.graph.Graph.{Graph}
 use Rattle.hs_types.specs.declared.matching.Extension.{Extension}
@@ -24,7 +25,8 @@ use Rattle.hs_types.specs.TypedGraph.{IsOf}
 use Rattle.hs_types.specs.ValidMatch.{IsValid, NoneIsValid, IsFirst, all_dropped_nodes, all_dropped_edges}
 use Rattle.hs_types.specs.ValidMatch as valid
 use Rattle.hs_finding.specs.Candidates.{Ascend}
-use Rattle.hs_finding.specs.Extending.{AreImages, split}
+use Rattle.hs_finding.specs.Extending.{AreImages, Sought, split}
+use Rattle.hs_finding.proofs.Images.{extension_choice}
 use Rattle.hs_finding.specs.FirstMatch.{OnlyAdds, no_args}
 use Rattle.hs_finding.specs.Kernel.{kernel}
 
@@ -88,14 +90,7 @@ plain_of m g shape all i = record { nodes_fit = i.nodes_fit; edges_fit = i.edges
 
 -- a plain match is a choice
 pub choice_of : (m : Meta) (g : Graph) (shape : Shape) (x : Extension) → IsPlain m g shape x → IsChoice (length (left_nodes shape.nodes) + length (left_edges shape.edges)) (AreImages (kernel m g shape)) (x.nodes ++ x.edges)
-choice_of m g shape x p =
-    let wn : length x.nodes ≡ length (left_nodes shape.nodes) = AllZip-long _ (left_nodes shape.nodes) x.nodes p.nodes_fit in
-    let we : length x.edges ≡ length (left_edges shape.edges) = AllZip-long _ (left_edges shape.edges) x.edges p.edges_fit in
-    let t : take (length (left_nodes shape.nodes)) (x.nodes ++ x.edges) ≡ x.nodes = take_at x.nodes x.edges (length (left_nodes shape.nodes)) wn in
-    let d : drop (length (left_nodes shape.nodes)) (x.nodes ++ x.edges) ≡ x.edges = drop_at x.nodes x.edges (length (left_nodes shape.nodes)) wn in
-    let same : split (kernel m g shape) (x.nodes ++ x.edges) ≡ x = rw (t, d) refl in
-    let good : AreImages (kernel m g shape) (x.nodes ++ x.edges) = rw same (record { nodes_fit = p.nodes_fit; edges_fit = p.edges_fit; nodes_differ = p.nodes_differ; edges_differ = p.edges_differ }) in
-    record { whole = omega (arith, length-append x.nodes x.edges); good = good }
+choice_of m g shape x p = extension_choice (kernel m g shape) x (record { nodes_fit = p.nodes_fit; edges_fit = p.edges_fit; nodes_differ = p.nodes_differ; edges_differ = p.edges_differ })
 
 -- where a rule only adds, each plain match is valid
 pub valid_plain : (m : Meta) (g : Graph) (rule : Rule) (f : Match) → OnlyAdds rule → IsPlain m g rule.shape (kernel_of f) → f.copies ≡ [] → IsValid m g rule no_args f
@@ -136,3 +131,10 @@ least_valid m g rule all f adds same l = rw same (record { valid = valid_plain m
 
 pub none_valid : (m : Meta) (g : Graph) (rule : Rule) → IsNone (IsChoice (length (left_nodes rule.shape.nodes) + length (left_edges rule.shape.edges)) (AreImages (kernel m g rule.shape))) → NoneIsValid m g rule no_args
 none_valid m g rule none = λ f v. none (f.nodes ++ f.edges) (choice_of m g rule.shape (kernel_of f) v.plain)
+
+-- the same search under other names
+pub least_as : (n k : ℕ) (s t : Sought) (o : Option (ArrayVec ℕ)) → n ≡ k → s ≡ t → IfSome o (λ found. IsLeast (IsChoice n (AreImages s)) found.items) → IfSome o (λ found. IsLeast (IsChoice k (AreImages t)) found.items)
+least_as n k s t o size same l = rw (← size, ← same) l
+
+pub none_as : (n k : ℕ) (s t : Sought) (o : Option (ArrayVec ℕ)) → n ≡ k → s ≡ t → IfNone o (IsNone (IsChoice n (AreImages s))) → IfNone o (IsNone (IsChoice k (AreImages t)))
+none_as n k s t o size same l = rw (← size, ← same) l

@@ -1,17 +1,60 @@
 ghost use Rattle.std.specs.Prelude.{◌≡◌, ◌≤◌, ◌<◌, ◌+◌, ◌-◌, ◌++◌, length, take, drop, slice_get, IsSomeAnd, IfSome, IfNone, ℕ, List, ◌∷◌};
-ghost use Rattle.hs_types.specs.Pattern.{left_edges};
+ghost use Rattle.hs_types.specs.Lists.{Differ};
+ghost use Rattle.hs_types.specs.Pattern.{left_nodes, left_edges};
 ghost use Rattle.hs_types.specs.PlainMatch.{image, IsImage};
 ghost use Rattle.hs_finding.specs.Candidates.{IsFree, IsNext};
 ghost use Rattle.hs_finding.specs.Extending.{AreImages, EdgeFits, Fits, NoObject};
+ghost use Rattle.hs_finding.specs.FirstMatch.{InOrder};
 ghost use Rattle.hs_finding.specs.Linked.{IsLinked};
 ghost use Rattle.hs_finding.specs.View.{sought};
 
 use crate::Extending;
 use crate::candidates::{Joining, next_edge, next_object};
 use crate::link::{Link, next_end};
-use crate::pattern::{image_of, left_edge, left_node, place_of};
+use crate::pattern::{
+    count_left_edges, count_left_nodes, image_of, left_edge, left_node, place_of,
+};
 use hs_search::Choice;
-use hs_types::{ClassNo, EdgeNo, ObjectNo, PatternEdge};
+use hs_types::{ClassNo, EdgeNo, Graph, Meta, ObjectNo, PatternEdge, PatternNode};
+
+impl<'a> Extending<'a> {
+    /// The search for the extensions of a match, whose images differ, by these nodes and edges.
+    pub fn new(
+        meta: &'a Meta,
+        graph: &'a Graph,
+        base_nodes: &'a [PatternNode],
+        base_images: &'a [ObjectNo],
+        base_edge_images: &'a [EdgeNo],
+        nodes: &'a [PatternNode],
+        edges: &'a [PatternEdge],
+    ) -> Extending<'a>
+        requires in_order { InOrder graph.now }
+        requires small { length (left_nodes nodes.now) + length (left_edges edges.now) ≤ 28 }
+        requires nodes_differ { Differ base_images.now }
+        requires edges_differ { Differ base_edge_images.now }
+        ensures sought { sought result ≡ record {
+          meta = meta.now;
+          graph = graph.now;
+          base_nodes = base_nodes.now;
+          base = record { nodes = base_images.now; edges = base_edge_images.now };
+          nodes = nodes.now;
+          edges = edges.now;
+        } }
+        ensures size { result.node_count + result.edge_count ≡ length (left_nodes nodes.now) + length (left_edges edges.now) }
+    {
+        Extending {
+            meta,
+            graph,
+            base_nodes,
+            base_images,
+            base_edge_images,
+            nodes,
+            edges,
+            node_count: count_left_nodes(nodes),
+            edge_count: count_left_edges(edges),
+        }
+    }
+}
 
 impl Choice for Extending<'_> {
     ghost size = { λ e. e.node_count + e.edge_count };

@@ -10,6 +10,8 @@ mod link;
 mod lookup;
 mod matching;
 mod pattern;
+#[cfg(test)]
+mod tests;
 
 pub use conformance::conforms;
 pub use extending::Extending;

@@ -7,7 +7,7 @@ ghost use Rattle.hs_finding.specs.FirstMatch.{InOrder, IsSmall, OnlyAdds, no_arg
 ghost use Rattle.hs_finding.specs.Kernel.{kernel};
 
 use crate::Extending;
-use crate::pattern::{count_left_edges, count_left_nodes};
+use crate::pattern::count_left_nodes;
 use hs_expr::List;
 use hs_search::{Numbers, least};
 use hs_types::{Graph, Match, Meta, Rule, Shape};
@@ -40,17 +40,9 @@ fn first_images(meta: &Meta, graph: &Graph, shape: &Shape) -> Option<Numbers>
     ensures none { IfNone result (IsNone
         (IsChoice (length (left_nodes shape.now.nodes) + length (left_edges shape.now.edges)) (AreImages (kernel meta.now graph.now shape.now)))) }
 {
-    least(&Extending {
-        meta,
-        graph,
-        base_nodes: &[],
-        base_images: &[],
-        base_edge_images: &[],
-        nodes: shape.nodes.as_slice(),
-        edges: shape.edges.as_slice(),
-        node_count: count_left_nodes(shape.nodes.as_slice()),
-        edge_count: count_left_edges(shape.edges.as_slice()),
-    })
+    let nodes = shape.nodes.as_slice();
+    let edges = shape.edges.as_slice();
+    least(&Extending::new(meta, graph, &[], &[], &[], nodes, edges))
 }
 
 /// The match with these images, without copies.

@@ -1,16 +1,23 @@
-use Rattle.std.proofs.Common.{rules}
-use Rattle.hs_types.specs.declared.graph.Edge.{Edge}
-use Rattle.hs_types.specs.declared.graph.Object.{Object}
-use Rattle.hs_finding.proofs.Valid.{Rise-Ascend}
+use Rattle.std.proofs.Common.{◌≡◌, ◌+◌, length, ℕ}
+use Rattle.std.specs.Prelude.{IfSome, IfNone}
+use Rattle.hs_types.specs.Pattern.{left_nodes, left_edges}
+use Rattle.hs_search.specs.Choice.{IsChoice, IsLeast, IsNone}
+use Rattle.hs_finding.specs.Extending.{Sought, AreImages}
+use Rattle.hs_finding.specs.Kernel.{kernel}
+use Rattle.hs_finding.specs.View.{sought}
+use Rattle.hs_finding.proofs.Valid.{least_as, none_as}
 use Rattle.hs_finding.proofs.matching.first_images.Goals as goal
 
-pub invariant_of-least : goal.invariant_of-least
-invariant_of-least c = record {
-  objects_ascend = Rise-Ascend (λ (object : Object). object.number) c.args.graph.now.objects 0 _ c.requires.in_order.objects;
-  edges_ascend = Rise-Ascend (λ (edge : Edge). edge.number) c.args.graph.now.edges 0 _ c.requires.in_order.edges;
-  nodes_counted = search rules;
-  edges_counted = search rules;
-  few = search rules;
-  images_differ = tt;
-  edge_images_differ = tt;
-}
+pub returns-clause-least : goal.returns-clause-least
+returns-clause-least c =
+    let same : sought c.new.result ≡ kernel c.args.meta.now c.args.graph.now c.args.shape.now = rw (c.as_slice-nodes.ensures, c.as_slice-edges.ensures) at c.new.ensures.sought in
+    let size : c.new.result.node_count + c.new.result.edge_count ≡ length (left_nodes c.args.shape.now.nodes) + length (left_edges c.args.shape.now.edges) =
+    rw (c.as_slice-nodes.ensures, c.as_slice-edges.ensures) at c.new.ensures.size in
+    least_as _ _ _ _ c.least.result size same c.least.ensures.least
+
+pub returns-clause-none : goal.returns-clause-none
+returns-clause-none c =
+    let same : sought c.new.result ≡ kernel c.args.meta.now c.args.graph.now c.args.shape.now = rw (c.as_slice-nodes.ensures, c.as_slice-edges.ensures) at c.new.ensures.sought in
+    let size : c.new.result.node_count + c.new.result.edge_count ≡ length (left_nodes c.args.shape.now.nodes) + length (left_edges c.args.shape.now.edges) =
+    rw (c.as_slice-nodes.ensures, c.as_slice-edges.ensures) at c.new.ensures.size in
+    none_as _ _ _ _ c.least.result size same c.least.ensures.none
