@@ -64,6 +64,23 @@ pub enum Kind {
     Times,
 }
 
+impl Kind {
+    ghost use Rattle.hs_tokens.specs.Kinds.{code, same};
+
+    fn code(self) -> u8
+        ensures { result ≡ code self }
+    {
+        self as u8
+    }
+
+    /// Whether it is this kind.
+    pub fn is(self, kind: Kind) -> bool
+        ensures { result ≡ same self kind }
+    {
+        self.code() == kind.code()
+    }
+}
+
 /// A token with its place in the text.
 #[derive(Clone, Copy, Debug)]
 pub struct Token {
