@@ -1,0 +1,5 @@
+pub mod Stacks
+pub mod Tables
+pub mod Steps
+pub mod Arms
+pub mod Effects
