@@ -5,3 +5,5 @@ pub mod Arms
 pub mod Effects
 pub mod Reading
 pub mod Writing
+pub mod Produced
+pub mod Whole

@@ -4,3 +4,4 @@ pub mod Lists
 pub mod Grammar
 pub mod Building
 pub mod Machine
+pub mod Parsing

@@ -1,19 +1,24 @@
 //! A parser by a stack of what the rest of a text is made of, so that no text overruns the machine's.
 
-ghost use Rattle.std.specs.Prelude.{◌≡◌, IfOk};
+ghost use Rattle.std.specs.Prelude.{◌≡◌, IfOk, IfErr};
 ghost use Rattle.std.specs.Bool.{OnTrue, OnFalse};
 ghost use Rattle.hs_text.specs.declared.grammar.Term.TheVariants as term;
 ghost use Rattle.hs_text.specs.Building.{held_then};
 ghost use Rattle.hs_text.specs.Terms.{matches};
+ghost use Rattle.hs_text.specs.Grammar.{IsText};
+ghost use Rattle.hs_text.specs.Parsing.{IsGrammarFault};
 ghost use Rattle.hs_text.specs.Machine.{Fine, Taken, Refused, IsEnd, IsCutOff};
 
 use crate::builder::Builder;
 use crate::expand::expand;
-use crate::grammar::{Symbol, Term};
+use crate::grammar::{Part, Symbol, Term};
 use crate::stack::Stack;
+use crate::syntax::Syntax;
 use crate::table::{empty, production};
-use hs_tokens::{Kind, Token};
+use hs_expr::List;
+use hs_tokens::{FaultKind, Kind, Scanned, TextFault, Token};
 use std::alloc::{AllocError, Global};
+use std::mem;
 
 // Whether a token of this kind may stand where the grammar has this term.
 fn may_stand(term: Term, kind: Kind) -> bool
@@ -177,4 +182,36 @@ fn finish(
         }
     }
     Ok(true)
+}
+
+/// The syntax of the tokens of a text, or the first fault of the grammar.
+pub fn read(alloc: Global, source: &[char], scanned: &Scanned) -> Result<Syntax, TextFault>
+    ensures ok { IfOk result (λ s. IsText source.now scanned.now.tokens.items s.definitions) }
+    ensures err { IfErr result (IsGrammarFault source.now scanned.now.tokens.items scanned.now.end) }
+{
+    let mut builder = Builder::new(alloc);
+    let mut stack = Stack::new(alloc);
+    stack.push(Symbol::Sub(Part::Text))?;
+    for token in scanned.tokens.as_slice() {
+        if !take(alloc, source, &mut stack, &mut builder, *token)? {
+            return Err(token_fault(*token));
+        }
+    }
+    if !finish(alloc, source, &mut stack, &mut builder)? {
+        return Err(scanned.end.fault(FaultKind::End));
+    }
+    Ok(Syntax {
+        definitions: mem::replace(&mut builder.definitions, List::new(alloc)),
+    })
+}
+
+// The fault at a token with which no text goes on.
+fn token_fault(token: Token) -> TextFault
+    ensures { result ≡ TextFault.Fault token.span.line token.span.column FaultKind.Order }
+{
+    TextFault::Fault {
+        line: token.span.line,
+        column: token.span.column,
+        kind: FaultKind::Order,
+    }
 }
