@@ -2,7 +2,8 @@
 //!
 //! Texts and lists that contracts see as plain lists ([`Text`], [`List`]), the traits that give
 //! derived clones and comparisons their meaning in clauses ([`Plain`], [`Exact`]), attribute values
-//! ([`Value`], [`Kind`]), checked expressions ([`Expr`]), and the loop that tells the first fault of
+//! ([`Value`], [`Kind`]), checked expressions ([`Expr`]),
+//! expressions by names as a text has them ([`NameExpr`]), and the loop that tells the first fault of
 //! a list ([`check_each`]).
 #![tactic(auto)]
 
@@ -10,6 +11,7 @@ mod check;
 mod exact;
 mod expr;
 mod list;
+mod name_expr;
 mod text;
 mod value;
 
@@ -17,5 +19,6 @@ pub use check::{check_each, fault_if};
 pub use exact::{Exact, Plain};
 pub use expr::{Expr, Sign, SlotRead};
 pub use list::List;
+pub use name_expr::{Name, NameExpr, Piece, Span};
 pub use text::Text;
 pub use value::{Kind, Value};

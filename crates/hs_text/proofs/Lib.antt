@@ -1,0 +1,9 @@
+pub mod Stacks
+pub mod Tables
+pub mod Steps
+pub mod Arms
+pub mod Effects
+pub mod Reading
+pub mod Writing
+pub mod Produced
+pub mod Whole

@@ -1,0 +1,10 @@
+use Rattle.std.proofs.Common.{◌≡◌, sym, ◌∙◌, subst, ℕ, List, IfOk, IfErr}
+use Rattle.std.specs.Str.{chars}
+use Rattle.hs_text.specs.Parsing.{IsSyntaxOf, IsTextFault}
+use Rattle.hs_text.proofs.parse.Goals as goal
+
+pub returns-clause-ok : goal.returns-clause-ok
+returns-clause-ok c = subst (λ (x : List ℕ). IfOk c.parse_chars.result (IsSyntaxOf x)) (c.as_slice.ensures.value ∙ c.in_ok-source.ensures) c.parse_chars.ensures.ok
+
+pub returns-clause-err : goal.returns-clause-err
+returns-clause-err c = subst (λ (x : List ℕ). IfErr c.parse_chars.result (IsTextFault x)) (c.as_slice.ensures.value ∙ c.in_ok-source.ensures) c.parse_chars.ensures.err

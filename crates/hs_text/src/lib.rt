@@ -1,0 +1,54 @@
+//! Rule and unit text as syntax.
+#![tactic(auto)]
+
+ghost use Rattle.std.specs.Prelude.{◌≡◌, IfOk, IfErr};
+ghost use Rattle.std.specs.Str.{chars};
+ghost use Rattle.hs_text.specs.Parsing.{IsSyntaxOf, IsTextFault};
+
+use hs_tokens::tokenize;
+use std::alloc::{AllocError, Global};
+
+mod builder;
+mod expand;
+mod grammar;
+mod parser;
+mod stack;
+mod syntax;
+mod table;
+mod words;
+
+pub use hs_tokens::{FaultKind, TextFault};
+pub use syntax::{
+    Atom, Bind, Body, Call, Count, Definition, Direction, Element, Item, Mark, Param, Rule, Simple,
+    Syntax, Unit,
+};
+
+/// The syntax of a rule and unit text, or its first fault: the first token that is wrong, and else
+/// the first token with which no text of the grammar goes on, or an end before the grammar's.
+pub fn parse(alloc: Global, text: &str) -> Result<Syntax, TextFault>
+    ensures ok { IfOk result (IsSyntaxOf (chars text.now)) }
+    ensures err { IfErr result (IsTextFault (chars text.now)) }
+{
+    let source = characters(alloc, text)?;
+    parse_chars(alloc, source.as_slice())
+}
+
+#[tactic(auto, using(std::proofs::lemmas::Str::chars_from_encodes))]
+fn characters(alloc: Global, text: &str) -> Result<Vec<char>, AllocError>
+    ensures { IfOk result (λ v. v.items ≡ chars text.now) }
+{
+    text.chars().collect(alloc)
+}
+
+fn parse_chars(alloc: Global, source: &[char]) -> Result<Syntax, TextFault>
+    ensures ok { IfOk result (IsSyntaxOf source.now) }
+    ensures err { IfErr result (IsTextFault source.now) }
+{
+    match tokenize(alloc, source) {
+        Ok(scanned) => match parser::read(alloc, source, &scanned) {
+            Ok(syntax) => Ok(syntax),
+            Err(fault) => Err(fault),
+        },
+        Err(fault) => Err(fault),
+    }
+}

@@ -1,0 +1,217 @@
+//! A parser by a stack of what the rest of a text is made of, so that no text overruns the machine's.
+
+ghost use Rattle.std.specs.Prelude.{◌≡◌, IfOk, IfErr};
+ghost use Rattle.std.specs.Bool.{OnTrue, OnFalse};
+ghost use Rattle.hs_text.specs.declared.grammar.Term.TheVariants as term;
+ghost use Rattle.hs_text.specs.Building.{held_then};
+ghost use Rattle.hs_text.specs.Terms.{matches};
+ghost use Rattle.hs_text.specs.Grammar.{IsText};
+ghost use Rattle.hs_text.specs.Parsing.{IsGrammarFault};
+ghost use Rattle.hs_text.specs.Machine.{Fine, Taken, Refused, IsEnd, IsCutOff};
+
+use crate::builder::Builder;
+use crate::expand::expand;
+use crate::grammar::{Part, Symbol, Term};
+use crate::stack::Stack;
+use crate::syntax::Syntax;
+use crate::table::{empty, production};
+use hs_expr::List;
+use hs_tokens::{FaultKind, Kind, Scanned, TextFault, Token};
+use std::alloc::{AllocError, Global};
+use std::mem;
+
+// Whether a token of this kind may stand where the grammar has this term.
+fn may_stand(term: Term, kind: Kind) -> bool
+    ensures { result ≡ matches term kind }
+{
+    match term {
+        Term::Just(wanted) => wanted.is(kind),
+        Term::Word => is_word(kind),
+        Term::Direction => is_direction(kind),
+        Term::Mark => is_mark(kind),
+        Term::Comparison => is_comparison(kind),
+        Term::Addition => is_addition(kind),
+        Term::Literal => is_literal(kind),
+        Term::Order => is_order(kind),
+        Term::Count => is_count(kind),
+        Term::Atom => is_atom(kind),
+    }
+}
+
+fn is_word(kind: Kind) -> bool
+    ensures { result ≡ matches term.Word kind }
+{
+    match kind {
+        Kind::Name | Kind::Rule | Kind::Unit | Kind::In | Kind::Out | Kind::Preserve | Kind::Create | Kind::Delete | Kind::Forbid | Kind::Require | Kind::Multi | Kind::Node | Kind::Edge | Kind::Set | Kind::Where | Kind::Sequential | Kind::Independent | Kind::Priority | Kind::Conditional | Kind::If | Kind::Then | Kind::Else | Kind::Loop | Kind::Iterated | Kind::And | Kind::Or | Kind::Not | Kind::True | Kind::False | Kind::IntWord | Kind::Bool | Kind::TextWord => true,
+        _ => false,
+    }
+}
+
+fn is_direction(kind: Kind) -> bool
+    ensures { result ≡ matches term.Direction kind }
+{
+    match kind {
+        Kind::In | Kind::Out => true,
+        _ => false,
+    }
+}
+
+fn is_mark(kind: Kind) -> bool
+    ensures { result ≡ matches term.Mark kind }
+{
+    match kind {
+        Kind::Preserve | Kind::Create | Kind::Delete => true,
+        _ => false,
+    }
+}
+
+fn is_comparison(kind: Kind) -> bool
+    ensures { result ≡ matches term.Comparison kind }
+{
+    match kind {
+        Kind::Equal | Kind::NotEqual | Kind::Less | Kind::AtMost | Kind::Greater | Kind::AtLeast => true,
+        _ => false,
+    }
+}
+
+fn is_addition(kind: Kind) -> bool
+    ensures { result ≡ matches term.Addition kind }
+{
+    match kind {
+        Kind::Plus | Kind::Minus => true,
+        _ => false,
+    }
+}
+
+fn is_literal(kind: Kind) -> bool
+    ensures { result ≡ matches term.Literal kind }
+{
+    match kind {
+        Kind::Int | Kind::Text | Kind::True | Kind::False => true,
+        _ => false,
+    }
+}
+
+fn is_order(kind: Kind) -> bool
+    ensures { result ≡ matches term.Order kind }
+{
+    match kind {
+        Kind::Sequential | Kind::Independent | Kind::Priority => true,
+        _ => false,
+    }
+}
+
+fn is_count(kind: Kind) -> bool
+    ensures { result ≡ matches term.Count kind }
+{
+    match kind {
+        Kind::Int | Kind::Name => true,
+        _ => false,
+    }
+}
+
+fn is_atom(kind: Kind) -> bool
+    ensures { result ≡ matches term.Atom kind }
+{
+    match kind {
+        Kind::Int | Kind::Text | Kind::True | Kind::False | Kind::Name => true,
+        _ => false,
+    }
+}
+
+// Takes the token, if a text of the symbols on the stack begins with it.
+fn take(
+    alloc: Global,
+    source: &[char],
+    stack: &mut Stack<Symbol>,
+    builder: &mut Builder,
+    token: Token,
+) -> Result<bool, AllocError>
+    requires { Fine stack.old }
+    ensures taken { IfOk result (λ b. OnTrue b (Taken source.now stack.old builder.old token stack.new builder.new)) }
+    ensures refused { IfOk result (λ b. OnFalse b (Refused source.now stack.old builder.old token)) }
+{
+    'steps: while let Some(symbol) = stack.pop() {
+        match symbol {
+            Symbol::Skip(kind) => return Ok(kind.is(token.kind)),
+            Symbol::Keep(term) => {
+                let kept = keep(builder, term, token)?;
+                return Ok(kept);
+            }
+            Symbol::Act(action) => builder.act(alloc, source, action)?,
+            Symbol::Sub(part) => match production(part, token.kind) {
+                Some(production) => expand(stack, production)?,
+                None => return Ok(false),
+            },
+        }
+    }
+    Ok(false)
+}
+
+// Holds the token, if it may stand there.
+fn keep(builder: &mut Builder, term: Term, token: Token) -> Result<bool, AllocError>
+    ensures may { IfOk result (λ b. b ≡ matches term token.kind) }
+    ensures held { IfOk result (λ b. OnTrue b (builder.new ≡ held_then token builder.old)) }
+{
+    if !may_stand(term, token.kind) {
+        return Ok(false);
+    }
+    builder.hold(token)?;
+    Ok(true)
+}
+
+// Whether the text may end here; what is left on the stack is done.
+fn finish(
+    alloc: Global,
+    source: &[char],
+    stack: &mut Stack<Symbol>,
+    builder: &mut Builder,
+) -> Result<bool, AllocError>
+    ensures ended { IfOk result (λ b. OnTrue b (IsEnd source.now stack.old builder.old builder.new)) }
+    ensures cut_off { IfOk result (λ b. OnFalse b (IsCutOff source.now stack.old builder.old)) }
+{
+    'steps: while let Some(symbol) = stack.pop() {
+        match symbol {
+            Symbol::Skip(_) => return Ok(false),
+            Symbol::Keep(_) => return Ok(false),
+            Symbol::Act(action) => builder.act(alloc, source, action)?,
+            Symbol::Sub(part) => match empty(part) {
+                Some(production) => expand(stack, production)?,
+                None => return Ok(false),
+            },
+        }
+    }
+    Ok(true)
+}
+
+/// The syntax of the tokens of a text, or the first fault of the grammar.
+pub fn read(alloc: Global, source: &[char], scanned: &Scanned) -> Result<Syntax, TextFault>
+    ensures ok { IfOk result (λ s. IsText source.now scanned.now.tokens.items s.definitions) }
+    ensures err { IfErr result (IsGrammarFault source.now scanned.now.tokens.items scanned.now.end) }
+{
+    let mut builder = Builder::new(alloc);
+    let mut stack = Stack::new(alloc);
+    stack.push(Symbol::Sub(Part::Text))?;
+    for token in scanned.tokens.as_slice() {
+        if !take(alloc, source, &mut stack, &mut builder, *token)? {
+            return Err(token_fault(*token));
+        }
+    }
+    if !finish(alloc, source, &mut stack, &mut builder)? {
+        return Err(scanned.end.fault(FaultKind::End));
+    }
+    Ok(Syntax {
+        definitions: mem::replace(&mut builder.definitions, List::new(alloc)),
+    })
+}
+
+// The fault at a token with which no text goes on.
+fn token_fault(token: Token) -> TextFault
+    ensures { result ≡ TextFault.Fault token.span.line token.span.column FaultKind.Order }
+{
+    TextFault::Fault {
+        line: token.span.line,
+        column: token.span.column,
+        kind: FaultKind::Order,
+    }
+}

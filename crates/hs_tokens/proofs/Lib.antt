@@ -1,0 +1,4 @@
+pub mod Letters
+pub mod Longest
+pub mod Elements
+pub mod Places

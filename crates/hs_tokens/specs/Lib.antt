@@ -1,0 +1,4 @@
+pub mod Tokens
+pub mod Lexing
+pub mod Scanning
+pub mod Kinds
