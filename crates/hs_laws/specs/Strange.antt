@@ -3,7 +3,7 @@ use Rattle.std.specs.Prelude.{[], ◌∷◌, true, false, codes}
 use Rattle.hs_types.specs.declared.graph.Graph.{Graph}
 use Rattle.hs_types.specs.declared.graph.Object.{Object}
 use Rattle.hs_types.specs.declared.meta.Meta.{Meta}
-use Rattle.hs_laws.specs.ModelB.{client, link}
+use Rattle.hs_laws.specs.Bank.{client, link}
 
 -- A class that is its own supertype.
 abbrev pub looped : Meta

@@ -21,7 +21,7 @@ ghost use Rattle.hs_types.specs.Copies.{AreCopies, NoneTouch};
 ghost use Rattle.hs_types.specs.Journal.{IsLawful, IsLawfulWritten, IsUnlawfulAt, after_journal, meta_of, new_names, gone_objects};
 ghost use Rattle.hs_types.specs.Plan.{plan_of};
 ghost use Rattle.hs_types.specs.Step.{step};
-ghost use Rattle.hs_laws.specs.ModelB.{model, client, account, link, transfer, transfer_args, two_accounts, one_account, pair_with, three_with, at_match, lone, open_account, drop_client, unlink, two, add, touch, reset, own, alone, purge, sweep, owned_by_another, owned_by_a_third, args_of, object_arg, value_arg, number, nothing, just_client, client_with_new_account, two_clients, purge_args, copy, opens, adds, adds_first, opens_second, client_with_one, always_unless_it_overflows};
+ghost use Rattle.hs_laws.specs.Bank.{model, client, account, link, transfer, transfer_args, two_accounts, one_account, pair_with, three_with, at_match, lone, open_account, drop_client, unlink, two, add, touch, reset, own, alone, purge, sweep, owned_by_another, owned_by_a_third, args_of, object_arg, value_arg, number, nothing, just_client, client_with_new_account, two_clients, purge_args, copy, opens, adds, adds_first, opens_second, client_with_one, always_unless_it_overflows};
 ghost use Rattle.hs_laws.specs.Strange.{looped, family, abstract_object, slotless_account, client_for_account, reused_name, old_names};
 
 /// Metamodels: one that is, one whose class is its own supertype; conformance goes up alone; classes

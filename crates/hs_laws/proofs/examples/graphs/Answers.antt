@@ -4,7 +4,7 @@ use Rattle.std.proofs.lemmas.List.Elements.{All-nil, All-cons}
 use Rattle.hs_types.specs.declared.graph.Object.{Object}
 use Rattle.hs_types.specs.Metamodel.{Conforms, above}
 use Rattle.hs_types.specs.TypedGraph.{hash_name}
-use Rattle.hs_laws.specs.ModelB.{client, link, model}
+use Rattle.hs_laws.specs.Bank.{client, link, model}
 use Rattle.hs_laws.proofs.Lists.{below_differs}
 use Rattle.hs_laws.proofs.Names.{hash_name-same, no_leading_zero}
 use Rattle.hs_laws.proofs.examples.graphs.Goals as goal

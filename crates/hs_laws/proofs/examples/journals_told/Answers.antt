@@ -15,7 +15,7 @@ use Rattle.hs_types.specs.declared.graph.Graph.{Graph}
 use Rattle.hs_types.specs.declared.unit.RuleSet.{RuleSet}
 use Rattle.hs_types.specs.Journal.{Asks, IsLawfulEntry, after_entry, meta_of}
 use Rattle.hs_expr.proofs.Evaluations.{values}
-use Rattle.hs_laws.specs.ModelB.{add, adds, args_of, at_match, balance, client_with_new_account, client_with_one, just_client, model, number, object_arg, open_account, opens, set_balance, tried}
+use Rattle.hs_laws.specs.Bank.{add, adds, args_of, at_match, balance, client_with_new_account, client_with_one, just_client, model, number, object_arg, open_account, opens, set_balance, tried}
 use Rattle.hs_laws.proofs.examples.journals_told.Goals as goal
 
 opened : (set : RuleSet) → meta_of set ≡ model → set.rules ≡ open_account ∷ add ∷ [] → after_entry set just_client opens ≡ client_with_new_account
