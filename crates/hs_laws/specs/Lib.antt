@@ -1,2 +1,2 @@
-pub mod ModelB
+pub mod Bank
 pub mod Strange

@@ -1,9 +1,12 @@
 -- Metamodels and graphs that show what the definitions refuse.
-use Rattle.std.specs.Prelude.{[], ◌∷◌, true, false, codes}
+use Rattle.std.specs.Prelude.{ℕ, List, [], ◌∷◌, true, false, codes}
 use Rattle.hs_types.specs.declared.graph.Graph.{Graph}
 use Rattle.hs_types.specs.declared.graph.Object.{Object}
 use Rattle.hs_types.specs.declared.meta.Meta.{Meta}
-use Rattle.hs_laws.specs.ModelB.{client, link}
+use Rattle.hs_types.specs.declared.plan.Plan.{Plan}
+use Rattle.hs_types.specs.declared.rule.Mark.TheVariants.{Drop, Keep, Make}
+use Rattle.hs_types.specs.declared.rule.Rule.{Rule}
+use Rattle.hs_laws.specs.Bank.{add, arrow, client, kernel, link, node, rule}
 
 -- A class that is its own supertype.
 abbrev pub looped : Meta
@@ -35,3 +38,19 @@ reused_name = only (client 0 (codes "#0"))
 -- Objects named `#7` and `#09`: the next name is `#8`, since a number has no leading zero.
 abbrev pub old_names : Graph
 old_names = record { objects = client 0 (codes "#7") ∷ client 1 (codes "#09") ∷ []; edges = []; next_object = 2; next_edge = 0; next_name = 8 }
+
+-- The same with a name left out.
+abbrev pub leaves_a_name_out : Graph
+leaves_a_name_out = record old_names { next_name = 9 }
+
+-- rule hang() { delete node a: Client; preserve node b: Account; create edge a -> b: accounts; }
+abbrev pub hang : Rule
+hang = rule [] (kernel (node (codes "a") 0 Drop ∷ node (codes "b") 1 Keep ∷ []) (arrow 0 0 1 Make ∷ []) [])
+
+-- The rule add without the slot that it reads and writes.
+abbrev pub slotless : Rule
+slotless = record add { shape = kernel (node (codes "a") 1 Keep ∷ []) [] [] }
+
+-- A plan that drops one object twice, and one that drops it once.
+abbrev pub drops : List ℕ → Plan
+drops objects = record { drop_objects = objects; drop_edges = []; writes = []; make_objects = []; make_edges = [] }

@@ -19,10 +19,11 @@ ghost use Rattle.hs_types.specs.Arguments.{ArgsFit};
 ghost use Rattle.hs_types.specs.Conditions.{AreFit, AreTrue, IsAbsent, IsPresent, env_of};
 ghost use Rattle.hs_types.specs.Copies.{AreCopies, NoneTouch};
 ghost use Rattle.hs_types.specs.Journal.{IsLawful, IsLawfulWritten, IsUnlawfulAt, after_journal, meta_of, new_names, gone_objects};
-ghost use Rattle.hs_types.specs.Plan.{plan_of};
+ghost use Rattle.hs_types.specs.Plan.{Fits, plan_of};
+ghost use Rattle.hs_types.specs.Spares.{Spares};
 ghost use Rattle.hs_types.specs.Step.{step};
-ghost use Rattle.hs_laws.specs.ModelB.{model, client, account, link, transfer, transfer_args, two_accounts, one_account, pair_with, three_with, at_match, lone, open_account, drop_client, unlink, two, add, touch, reset, own, alone, purge, sweep, owned_by_another, owned_by_a_third, args_of, object_arg, value_arg, number, nothing, just_client, client_with_new_account, two_clients, purge_args, copy, opens, adds, adds_first, opens_second, client_with_one, always_unless_it_overflows};
-ghost use Rattle.hs_laws.specs.Strange.{looped, family, abstract_object, slotless_account, client_for_account, reused_name, old_names};
+ghost use Rattle.hs_laws.specs.Bank.{model, client, account, link, transfer, transfer_args, two_accounts, one_account, pair_with, three_with, at_match, lone, open_account, drop_client, unlink, two, add, touch, reset, own, alone, purge, sweep, owned_by_another, owned_by_a_third, args_of, object_arg, value_arg, number, nothing, just_client, client_with_new_account, two_clients, purge_args, copy, opens, adds, adds_first, opens_second, client_with_one, always_unless_it_overflows, opens_missed, opens_misnamed, opens_and_drops};
+ghost use Rattle.hs_laws.specs.Strange.{looped, family, abstract_object, slotless_account, client_for_account, reused_name, old_names, leaves_a_name_out, hang, slotless, drops};
 
 /// Metamodels: one that is, one whose class is its own supertype; conformance goes up alone; classes
 /// that nothing concrete joins; the bounds of EInt.
@@ -48,6 +49,7 @@ pub fn graphs()
     ensures no_reused_name { IsTyped model reused_name → ⊥ }
     ensures canonical { hash_name 8 ≡ codes "#8" }
     ensures opening { IsOpening model old_names }
+    ensures no_gap { IsOpening model leaves_a_name_out → ⊥ }
 {}
 
 /// Expressions are strict: where one part leaves 64 bits the whole has no value, whatever the rest is.
@@ -107,6 +109,21 @@ pub fn conditions()
     ensures not_there { IsPresent model (pair_with [] 0) own (record { nodes = 1 ∷ []; edges = [] }) owned_by_another → ⊥ }
 {}
 
+/// Rules: no edge can be made at a node that goes, and each slot that is set stands in the list.
+pub fn rules_refused()
+    ensures no_hanging { IsRule model hang → ⊥ }
+    ensures no_missing_slot { IsRule model slotless → ⊥ }
+{}
+
+/// Plans: one that drops an object of the graph fits and spares a match elsewhere; one that drops it
+/// twice doesn't fit; and none that drops an object spares a match that has it.
+pub fn plans()
+    ensures fits { Fits model (two_accounts (pos 0) (pos 0)) (drops (1 ∷ [])) }
+    ensures not_twice { Fits model (two_accounts (pos 0) (pos 0)) (drops (1 ∷ 1 ∷ [])) → ⊥ }
+    ensures spares { Spares model (two_accounts (pos 0) (pos 0)) (drops (1 ∷ [])) add (at_match (0 ∷ []) []) [] }
+    ensures spares_not { Spares model (two_accounts (pos 0) (pos 0)) (drops (0 ∷ [])) add (at_match (0 ∷ []) []) [] → ⊥ }
+{}
+
 /// A transfer of 30 between accounts with 100 and 5.
 pub fn transfers()
     ensures is_rule { IsRule model transfer }
@@ -134,7 +151,7 @@ pub fn copies()
 {}
 
 /// A journal of two entries, of which the first opens an account and the second adds to it; the other
-/// way round the first names a match that isn't there.
+/// way round the first names a match that isn't there. And entries that don't tell what was.
 pub fn journals_told()
     ensures lawful { (set : RuleSet) → meta_of set ≡ model → set.rules ≡ open_account ∷ add ∷ []
         → IsLawful set just_client (opens ∷ adds ∷ []) }
@@ -142,6 +159,12 @@ pub fn journals_told()
         → after_journal set just_client (opens ∷ adds ∷ []) ≡ client_with_one }
     ensures exchanged { (set : RuleSet) → meta_of set ≡ model → set.rules ≡ open_account ∷ add ∷ []
         → IsUnlawfulAt set just_client ((0, adds_first) ∷ (1, opens_second) ∷ []) 0 cause.Match }
+    ensures missed { (set : RuleSet) → meta_of set ≡ model → set.rules ≡ open_account ∷ add ∷ []
+        → IsUnlawfulAt set just_client ((0, opens_missed) ∷ []) 0 cause.Valid }
+    ensures misnamed { (set : RuleSet) → meta_of set ≡ model → set.rules ≡ open_account ∷ add ∷ []
+        → IsUnlawfulAt set just_client ((0, opens_misnamed) ∷ []) 0 cause.New }
+    ensures not_gone { (set : RuleSet) → meta_of set ≡ model → set.rules ≡ open_account ∷ add ∷ []
+        → IsUnlawfulAt set just_client ((0, opens_and_drops) ∷ []) 0 cause.Old }
     ensures wrong_place { (set : RuleSet)
         → IsUnlawfulAt set just_client ((1, opens) ∷ []) 0 cause.Number }
 {}

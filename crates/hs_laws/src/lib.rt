@@ -17,7 +17,7 @@ pub use conformance::conformance_is_an_order;
 pub use evaluation::{no_value_means_overflow, values_by_form, values_have_their_kinds};
 pub use examples::{
     arguments, conditions, copies, dangling, expressions, graphs, journals_told, metamodels,
-    orders, plain_matches, steps_made, transfers,
+    orders, plain_matches, plans, rules_refused, steps_made, transfers,
 };
 pub use journals::{
     journals_go_on, journals_stay_lawful, lawful_or_not, missed_attempts_change_nothing,

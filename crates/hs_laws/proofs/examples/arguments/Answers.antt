@@ -1,6 +1,6 @@
 use Rattle.std.proofs.Common.{false, refl, lit<, pos, []}
 use Rattle.std.proofs.lemmas.Bool.{both_ways}
-use Rattle.hs_laws.specs.ModelB.{object_param, value_arg}
+use Rattle.hs_laws.specs.Bank.{object_param, value_arg}
 use Rattle.hs_laws.proofs.examples.arguments.Goals as goal
 
 pub returns-clause-wrong_kind : goal.returns-clause-wrong_kind

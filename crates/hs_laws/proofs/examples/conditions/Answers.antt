@@ -11,7 +11,7 @@ use Rattle.hs_types.specs.Conditions.{env_of}
 use Rattle.hs_types.specs.Metamodel.{fits, itself}
 use Rattle.hs_types.specs.Pattern.{shape_of}
 use Rattle.hs_types.specs.PlainMatch.{Extends}
-use Rattle.hs_laws.specs.ModelB.{add, args_of, balance, copy, link, model, number, one_account, owned_by_another, pair_with, reset, set_balance}
+use Rattle.hs_laws.specs.Bank.{add, args_of, balance, copy, link, model, number, one_account, owned_by_another, pair_with, reset, set_balance}
 use Rattle.hs_laws.proofs.Lists.{All-one}
 use Rattle.hs_laws.proofs.examples.conditions.Goals as goal
 

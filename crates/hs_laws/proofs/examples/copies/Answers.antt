@@ -13,7 +13,7 @@ use Rattle.hs_types.specs.Lists.{Apart}
 use Rattle.hs_types.specs.Metamodel.{itself}
 use Rattle.hs_types.specs.PlainMatch.{Extends}
 use Rattle.hs_types.specs.TypedGraph.{edge_at}
-use Rattle.hs_laws.specs.ModelB.{arrow, copy, kernel, link, model, node, one_account, purge, purge_args, three_with}
+use Rattle.hs_laws.specs.Bank.{arrow, copy, kernel, link, model, node, one_account, purge, purge_args, three_with}
 use Rattle.hs_laws.proofs.Lists.{All-one, All-two, below_differs}
 use Rattle.hs_laws.proofs.examples.copies.Goals as goal
 

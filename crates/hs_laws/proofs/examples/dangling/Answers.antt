@@ -7,7 +7,7 @@ use Rattle.hs_types.specs.Dangling.{NoneDangle}
 use Rattle.hs_types.specs.Lists.{beside}
 use Rattle.hs_types.specs.Pattern.{is_drop, left_nodes}
 use Rattle.hs_types.specs.TypedGraph.{name_at}
-use Rattle.hs_laws.specs.ModelB.{args_of, drop_client, link, object_arg, pair_with}
+use Rattle.hs_laws.specs.Bank.{args_of, drop_client, link, object_arg, pair_with}
 use Rattle.hs_laws.proofs.Lists.{below_differs}
 use Rattle.hs_laws.proofs.examples.dangling.Goals as goal
 

@@ -1,10 +1,12 @@
-use Rattle.std.proofs.Common.{ℕ, ◌<◌, ◌≡◌, [], ◌∷◌, length, refl, sym, ap, rules, arith, lit<, codes, true, false}
+use Rattle.std.proofs.Common.{ℕ, ◌<◌, ◌≡◌, [], ◌∷◌, length, refl, sym, ap, rules, arith, lit<, codes, true, false, suc, zero, ◌∙◌}
+use Rattle.std.specs.List.{Any}
 use Rattle.std.proofs.lemmas.Bool.{both_ways}
 use Rattle.std.proofs.lemmas.List.Elements.{All-nil, All-cons}
 use Rattle.hs_types.specs.declared.graph.Object.{Object}
 use Rattle.hs_types.specs.Metamodel.{Conforms, above}
 use Rattle.hs_types.specs.TypedGraph.{hash_name}
-use Rattle.hs_laws.specs.ModelB.{client, link, model}
+use Rattle.hs_laws.specs.Bank.{client, link, model}
+use Rattle.hs_laws.specs.Strange.{leaves_a_name_out}
 use Rattle.hs_laws.proofs.Lists.{below_differs}
 use Rattle.hs_laws.proofs.Names.{hash_name-same, no_leading_zero}
 use Rattle.hs_laws.proofs.examples.graphs.Goals as goal
@@ -44,3 +46,11 @@ returns-clause-opening c = record {
   where
     Below : Object → Type 0
     Below object = (k : ℕ) → object.name ≡ hash_name k → k < 8
+
+pub returns-clause-no_gap : goal.returns-clause-no_gap
+returns-clause-no_gap c h = none (h.next_name 8 refl)
+  where
+    none : Any (λ object. object.name ≡ hash_name 8) leaves_a_name_out.objects → ⊥
+    none (zero, x, l, e, n) = below_differs 7 8 (lit< tt) (hash_name-same 7 8 (ap (λ (object : Object). object.name) e ∙ n))
+    none (suc zero, x, l, e, n) = no_leading_zero 8 57 [] (sym (ap (λ (object : Object). object.name) e ∙ n))
+    none (suc (suc k), x, l, e, n) = absurd (omega arith)

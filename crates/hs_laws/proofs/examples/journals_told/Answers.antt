@@ -1,21 +1,26 @@
-use Rattle.std.proofs.Common.{suc, zero, ◌≡◌, [], ◌∷◌, IsSomeAnd, codes, pos, true, refl, sym, subst, rules, lit<, lit≤}
+use Rattle.std.proofs.Common.{suc, zero, ◌≡◌, [], ◌∷◌, IsSomeAnd, codes, pos, true, refl, sym, subst, rules, lit<, lit≤, ◌<◌, ◌≤◌, inl, map, length, get_or, arith, ap, ℕ, List}
 use Rattle.hs_expr.specs.declared.expr.Expr.TheVariants as expr
 use Rattle.hs_expr.specs.declared.expr.Sign.TheVariants as sign
 use Rattle.hs_expr.specs.declared.value.Value.TheVariants as value
 use Rattle.hs_expr.specs.Evaluation.{Env, value_of}
 use Rattle.hs_types.specs.declared.entry.Cause.{Cause}
 use Rattle.hs_types.specs.declared.entry.Cause.TheVariants as cause
-use Rattle.hs_types.specs.declared.entry.Outcome.TheVariants.{Applied}
+use Rattle.hs_types.specs.declared.entry.Entry.{Entry}
+use Rattle.hs_types.specs.declared.entry.Outcome.{Outcome}
+use Rattle.hs_types.specs.declared.entry.Outcome.TheVariants.{Applied, Missed}
+use Rattle.hs_types.specs.declared.entry.Tried.{Tried}
+use Rattle.std.specs.List.{flat_map, range_with_len}
+use Rattle.std.proofs.lemmas.List.Elements.{All-nil}
 use Rattle.hs_types.specs.declared.rule.SetItem.{SetItem}
 use Rattle.hs_types.specs.Conditions.{env_of}
 use Rattle.hs_types.specs.Metamodel.{fits, itself}
 use Rattle.hs_types.specs.ValidMatch.{IsValid}
-use Rattle.hs_laws.proofs.Lists.{All-one}
+use Rattle.hs_laws.proofs.Lists.{All-one, below_differs}
 use Rattle.hs_types.specs.declared.graph.Graph.{Graph}
 use Rattle.hs_types.specs.declared.unit.RuleSet.{RuleSet}
-use Rattle.hs_types.specs.Journal.{Asks, IsLawfulEntry, after_entry, meta_of}
+use Rattle.hs_types.specs.Journal.{Asks, IsLawfulEntry, IsNumbered, after_entry, meta_of, rank, tries_in}
 use Rattle.hs_expr.proofs.Evaluations.{values}
-use Rattle.hs_laws.specs.ModelB.{add, adds, args_of, at_match, balance, client_with_new_account, client_with_one, just_client, model, number, object_arg, open_account, opens, set_balance, tried}
+use Rattle.hs_laws.specs.Bank.{add, adds, args_of, at_match, balance, client_with_new_account, client_with_one, just_client, model, number, object_arg, open_account, open_args, opens, opens_missed, opens_misnamed, opens_and_drops, set_balance, tried}
 use Rattle.hs_laws.proofs.examples.journals_told.Goals as goal
 
 opened : (set : RuleSet) → meta_of set ≡ model → set.rules ≡ open_account ∷ add ∷ [] → after_entry set just_client opens ≡ client_with_new_account
@@ -81,3 +86,60 @@ pub returns-clause-lawful : goal.returns-clause-lawful
 returns-clause-lawful c set m r zero = record { numbered = record { at_its_place = refl; within_sessions = lit< tt; not_behind = search rules; tries_numbered = refl }; tries = (opens_lawful set m r, tt) }
 returns-clause-lawful c set m r (suc zero) = subst (λ (g : Graph). IsLawfulEntry set (opens ∷ []) g 1 adds) (sym (opened set m r)) (record { numbered = record { at_its_place = refl; within_sessions = lit< tt; not_behind = search rules; tries_numbered = refl }; tries = (adds_lawful set m r, tt) })
 returns-clause-lawful c set m r (suc (suc n)) = tt
+
+numbered : (entry : Entry) → entry.session ≡ 0 → map (λ tried. tried.attempt) (tries_in entry.what) ≡ range_with_len 0 (length (tries_in entry.what)) → IsNumbered [] 0 entry
+numbered entry s t = record { at_its_place = refl; within_sessions = rw s (lit< tt); not_behind = All-nil (λ earlier. earlier.session ≡ entry.session → earlier.request ≤ entry.request); tries_numbered = t }
+
+args_fit : (set : RuleSet) → set.rules ≡ open_account ∷ add ∷ [] → (tried : Tried) → tried.rule ≡ 0 → tried.args ≡ open_args → Asks set just_client tried cause.Rule
+args_fit set r tried e a = rw (r, e, a) (search rules)
+
+pub returns-clause-missed : goal.returns-clause-missed
+returns-clause-missed c set m r = record {
+  lawful_before = (refl, λ place. tt);
+  fails = (numbered opens_missed refl refl, inl (record { met = met; unmet = λ h. (rw (r, m) at h) (at_match (0 ∷ []) []) opens_valid }));
+}
+  where
+    met : (earlier : Cause) → rank earlier < 3 → Asks set just_client (tried 0 open_args Missed) earlier
+    met cause.Number l = rw r tt
+    met cause.Rule l = args_fit set r (tried 0 open_args Missed) refl refl
+    met cause.Match l = rw r tt
+    met cause.Valid l = absurd (omega arith)
+    met cause.New l = absurd (omega arith)
+    met cause.Old l = absurd (omega arith)
+
+abbrev digit_of : List (List ℕ) → ℕ
+digit_of names = get_or (flat_map (λ name. name) names) 1 0
+
+abbrev misnamed : Outcome
+misnamed = Applied (record { nodes = codes "c1" ∷ []; edges = []; copies = [] }) (codes "#1" ∷ []) [] []
+
+pub returns-clause-misnamed : goal.returns-clause-misnamed
+returns-clause-misnamed c set m r = record {
+  lawful_before = (refl, λ place. tt);
+  fails = (numbered opens_misnamed refl refl, inl (record { met = met; unmet = λ h. below_differs 48 49 (lit< tt) (sym (ap digit_of (rw r at h).0)) }));
+}
+  where
+    met : (earlier : Cause) → rank earlier < 4 → Asks set just_client (tried 0 open_args misnamed) earlier
+    met cause.Number l = rw r tt
+    met cause.Rule l = args_fit set r (tried 0 open_args misnamed) refl refl
+    met cause.Match l = rw (r, m) opens_valid
+    met cause.Valid l = rw r tt
+    met cause.New l = absurd (omega arith)
+    met cause.Old l = absurd (omega arith)
+
+abbrev dropping : Outcome
+dropping = Applied (record { nodes = codes "c1" ∷ []; edges = []; copies = [] }) (codes "#0" ∷ []) [] (record { name = codes "c1"; class = 0; slots = [] } ∷ [])
+
+pub returns-clause-not_gone : goal.returns-clause-not_gone
+returns-clause-not_gone c set m r = record {
+  lawful_before = (refl, λ place. tt);
+  fails = (numbered opens_and_drops refl refl, inl (record { met = met; unmet = λ h. below_differs 0 1 (lit< tt) (sym (ap length (rw r at h).1)) }));
+}
+  where
+    met : (earlier : Cause) → rank earlier < 5 → Asks set just_client (tried 0 open_args dropping) earlier
+    met cause.Number l = rw r tt
+    met cause.Rule l = args_fit set r (tried 0 open_args dropping) refl refl
+    met cause.Match l = rw (r, m) opens_valid
+    met cause.Valid l = rw r tt
+    met cause.New l = rw r (refl, (lit≤ tt, lit≤ tt))
+    met cause.Old l = absurd (omega arith)

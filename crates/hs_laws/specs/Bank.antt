@@ -8,7 +8,7 @@ use Rattle.hs_expr.specs.declared.value.Kind.TheVariants as kind
 use Rattle.hs_expr.specs.declared.value.Value.TheVariants as value
 use Rattle.hs_types.specs.declared.entry.Entry.{Entry}
 use Rattle.hs_types.specs.declared.entry.Outcome.{Outcome}
-use Rattle.hs_types.specs.declared.entry.Outcome.TheVariants.{Applied}
+use Rattle.hs_types.specs.declared.entry.Outcome.TheVariants.{Applied, Missed}
 use Rattle.hs_types.specs.declared.entry.Tried.{Tried}
 use Rattle.hs_types.specs.declared.entry.What.TheVariants.{One}
 use Rattle.hs_types.specs.declared.graph.Edge.{Edge}
@@ -253,3 +253,16 @@ client_with_one = record client_with_new_account { objects = client 0 (codes "c1
 -- true or (amount + 1 > 0)
 abbrev pub always_unless_it_overflows : Expr
 always_unless_it_overflows = expr.Binary sign.Or (expr.Literal (value.Bool true)) (expr.Binary sign.Greater (expr.Binary sign.Plus (expr.Param 2) (number (pos 1))) (number (pos 0)))
+
+-- Entries that don't tell what was: a match missed that is there, another name than the next, and an object gone that is still there.
+abbrev pub open_args : Args
+open_args = args_of (object_arg (codes "c") (codes "c1") ∷ [])
+
+abbrev pub opens_missed : Entry
+opens_missed = one 0 (tried 0 open_args Missed)
+
+abbrev pub opens_misnamed : Entry
+opens_misnamed = one 0 (tried 0 open_args (Applied (record { nodes = codes "c1" ∷ []; edges = []; copies = [] }) (codes "#1" ∷ []) [] []))
+
+abbrev pub opens_and_drops : Entry
+opens_and_drops = one 0 (tried 0 open_args (Applied (record { nodes = codes "c1" ∷ []; edges = []; copies = [] }) (codes "#0" ∷ []) [] (record { name = codes "c1"; class = 0; slots = [] } ∷ [])))
