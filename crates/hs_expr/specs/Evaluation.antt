@@ -1,10 +1,10 @@
 -- The value of an expression: strict, in whole numbers of 64 bits with a sign.
-use Rattle.std.specs.Prelude.{ℕ, ◌^◌, ℤ, pos, negsuc, ◌+ℤ◌, ◌-ℤ◌, ◌*ℤ◌, neg_ℤ, List, [], ◌∷◌, ◌++◌, Bool, false, not, ◌&&◌, ◌||◌, if◌then◌else◌, Option, Some, None, nat_eq, nat_lt, int_lt, int_le}
+use Rattle.std.specs.Prelude.{ℕ, ◌≡◌, ◌⊎◌, ◌+◌, ◌^◌, max, ℤ, pos, negsuc, ◌+ℤ◌, ◌-ℤ◌, ◌*ℤ◌, neg_ℤ, List, [], ◌∷◌, ◌++◌, Bool, false, not, ◌&&◌, ◌||◌, if◌then◌else◌, Option, Some, None, nat_eq, nat_lt, int_lt, int_le}
 use Rattle.std.specs.Bool.{beq}
 use Rattle.std.specs.Ordering.{int_eq}
 use Rattle.std.specs.Option.{option_and_then}
 use Rattle.std.specs.Cmp.Lexicographic.{pointwise}
-use Rattle.hs_expr.specs.declared.expr.Expr.{Expr, fold-Expr}
+use Rattle.hs_expr.specs.declared.expr.Expr.{Expr, fold-Expr, rec-Expr}
 use Rattle.hs_expr.specs.declared.expr.Expr.TheOpen.{Expr-F}
 use Rattle.hs_expr.specs.declared.expr.SlotRead.{SlotRead}
 use Rattle.hs_expr.specs.declared.expr.Sign.{Sign}
@@ -74,9 +74,37 @@ level env (Expr-F.Not a) = option_and_then negated a
 level env (Expr-F.Minus a) = option_and_then opposite a
 level env (Expr-F.Binary sign a b) = option_and_then (λ x. option_and_then (joined sign x) b) a
 
--- The value of the expression, where it has one. For an expression whose parts have the kinds that their places want, there is none exactly where a sum, difference, product or negation leaves 64 bits.
+-- The value of the expression, where it has one.
 abbrev pub value_of : Env → Expr → Option Value
 value_of env = fold-Expr (Option Value) (level env)
+
+-- 64 bits with a sign don't hold the number.
+abbrev pub IsOut : ℤ → Type 0
+IsOut n = is_within (2 ^ 63) n ≡ false
+
+-- The operands have values, and the sum, difference or product of these leaves 64 bits.
+abbrev pub LeavesJoined : Sign → Option Value → Option Value → Type 0
+LeavesJoined sign.Plus (Some (value.Int m)) (Some (value.Int n)) = IsOut (m +ℤ n)
+LeavesJoined sign.Minus (Some (value.Int m)) (Some (value.Int n)) = IsOut (m -ℤ n)
+LeavesJoined sign.Times (Some (value.Int m)) (Some (value.Int n)) = IsOut (m *ℤ n)
+LeavesJoined _ _ _ = ⊥
+
+abbrev pub LeavesOpposite : Option Value → Type 0
+LeavesOpposite (Some (value.Int n)) = IsOut (neg_ℤ n)
+LeavesOpposite _ = ⊥
+
+-- At one level: within an operand, or here.
+abbrev pub LeavesLevel : Env → (X : Type 0) → (X → Expr) → (X → Type 0) → Expr-F X → Type 0
+LeavesLevel env X operand within (Expr-F.Literal v) = ⊥
+LeavesLevel env X operand within (Expr-F.Slot read) = ⊥
+LeavesLevel env X operand within (Expr-F.Param number) = ⊥
+LeavesLevel env X operand within (Expr-F.Not a) = within a
+LeavesLevel env X operand within (Expr-F.Minus a) = within a ⊎ LeavesOpposite (value_of env (operand a))
+LeavesLevel env X operand within (Expr-F.Binary sign a b) = within a ⊎ (within b ⊎ LeavesJoined sign (value_of env (operand a)) (value_of env (operand b)))
+
+-- Somewhere in the expression a sum, a difference, a product or a negation leaves 64 bits.
+abbrev pub Leaves : Env → Expr → Type 0
+Leaves env = rec-Expr (Type 0) (LeavesLevel env)
 
 -- The slots that one level reads, beside those of its operands.
 abbrev pub reads_of_level : Expr-F (List SlotRead) → List SlotRead
@@ -134,3 +162,21 @@ kind_of_level scope (Expr-F.Binary sign a b) = option_and_then (λ x. option_and
 -- The kind of an expression, where each of its parts has a kind that its place takes.
 abbrev pub kind_in : Scope → Expr → Option Kind
 kind_in scope = fold-Expr (Option Kind) (kind_of_level scope)
+
+-- Each slot and each parameter that has a kind has a value of it.
+pub record IsComplete (env : Env) (scope : Scope) : Type 0 where
+  pub slots : (n a : ℕ) (k : Kind) → scope.slot n a ≡ Some k → (v : Value) × (env.slot n a ≡ Some v) × (kind_of v ≡ k)
+  pub params : (n : ℕ) (k : Kind) → scope.param n ≡ Some k → (v : Value) × (env.param n ≡ Some v) × (kind_of v ≡ k)
+
+-- How many operators stand on one path down the level, beside those of its operands.
+abbrev pub nesting_of_level : Expr-F ℕ → ℕ
+nesting_of_level (Expr-F.Literal v) = 0
+nesting_of_level (Expr-F.Slot read) = 0
+nesting_of_level (Expr-F.Param number) = 0
+nesting_of_level (Expr-F.Not a) = a + 1
+nesting_of_level (Expr-F.Minus a) = a + 1
+nesting_of_level (Expr-F.Binary sign a b) = max a b + 1
+
+-- The most operators on one path down the expression.
+abbrev pub nesting : Expr → ℕ
+nesting = fold-Expr ℕ nesting_of_level

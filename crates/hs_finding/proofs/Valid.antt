@@ -104,6 +104,7 @@ valid_plain m g rule f adds plain none =
       forbids = rw adds.forbids (All-nil _);
       needs = rw adds.needs (All-nil _);
       copies = rw (adds.multis, none) tt;
+      copies_fit = rw adds.multis (All-nil _);
       none_touch = rw (adds.multis) tt;
     }
 

@@ -37,12 +37,11 @@ copy_env g rule args f copy = env_of g rule args (nodes_of rule copy.multi) (ima
 abbrev pub IsCopy : Meta → Graph → Rule → Args → Extension → Multi → Extension → Type 0
 IsCopy m g rule args f multi x = Extends m g rule.shape f multi.shape x × AreTrue (copy_env g rule args f (record { multi = multi; found = x })) multi.wheres
 
--- All copies of the multi-rule, in order, each with values that fit.
+-- All copies of the multi-rule, in order.
 pub record AreCopies (m : Meta) (g : Graph) (rule : Rule) (args : Args) (f : Extension) (multi : Multi) (copies : List Extension) : Type 0 where
   pub each : All (IsCopy m g rule args f multi) copies
   pub whole : (x : Extension) → IsCopy m g rule args f multi x → Contains copies x
   pub in_order : EachPair IsEarlier copies
-  pub sets_fit : All (λ x. AreFit m (copy_env g rule args f (record { multi = multi; found = x })) multi.sets) copies
 
 -- All copies of a match, multi-rule by multi-rule.
 abbrev pub copies_from : List Multi → List (List Extension) → List Copy
@@ -52,6 +51,10 @@ copies_from (multi ∷ multis) (found ∷ lists) = map (λ x. record { multi = m
 
 abbrev pub copies_of : Rule → Match → List Copy
 copies_of rule f = copies_from rule.multis f.copies
+
+-- The values that a copy sets fit.
+abbrev pub CopyFits : Meta → Graph → Rule → Args → Extension → Copy → Type 0
+CopyFits m g rule args f copy = AreFit m (copy_env g rule args f copy) copy.multi.sets
 
 -- A slot of an object of the graph.
 pub record At : Type 0 where

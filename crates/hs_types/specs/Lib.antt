@@ -14,3 +14,6 @@ pub mod Step
 pub mod Journal
 pub mod RuleForm
 pub mod Spares
+pub mod Elements
+pub mod Outs
+pub mod Limits

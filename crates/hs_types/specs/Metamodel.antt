@@ -99,9 +99,9 @@ abbrev pub StandBefore : Feature → Feature → Type 0
 StandBefore f g = (f.owner < g.owner) ⊎ ((f.owner ≡ g.owner) × (is_attribute g ≡ true → is_attribute f ≡ true))
 
 -- A default is of its data type. A reference leads to a class; it has room for one target or more, and for no fewer than it needs.
-abbrev pub IsSound : Meta → FeatureKind → Type 0
-IsSound m (Attribute data_type default) = is_of_type data_type default ≡ true
-IsSound m (Reference target containment lower upper) = (target < length m.classes) × IfSome upper (λ most. (0 < most) × (lower ≤ most))
+abbrev pub FeatureFits : Meta → FeatureKind → Type 0
+FeatureFits m (Attribute data_type default) = is_of_type data_type default ≡ true
+FeatureFits m (Reference target containment lower upper) = (target < length m.classes) × IfSome upper (λ most. (0 < most) × (lower ≤ most))
 
 -- Classes and features with which objects can be typed. No class is its own supertype, by one step or more. The features of a class are the inherited ones, supertype by supertype, each once, and then its own; no two of them have one name.
 pub record IsMeta (m : Meta) : Type 0 where
@@ -109,7 +109,7 @@ pub record IsMeta (m : Meta) : Type 0 where
   pub supers_stand : All (λ class. All (λ d. d < length m.classes) class.supers) m.classes
   pub no_cycle : (c d : ℕ) → HasSuper m c d → Conforms m d c → ⊥
   pub owners_stand : All (λ feature. feature.owner < length m.classes) m.features
-  pub features_sound : All (λ feature. IsSound m feature.kind) m.features
+  pub features_sound : All (λ feature. FeatureFits m feature.kind) m.features
   pub features_in_order : AllPairs StandBefore m.features
   pub features_whole : EachIndex m.classes (λ c. IsSomeAnd (class_at m c) (λ class. class.features ≡ each_once (flat_map (features_of m) class.supers) ++ owned_by m c))
   pub features_differ : All (λ class. Differ (map (λ f. option_map (λ feature. feature.name) (feature_at m f)) class.features)) m.classes

@@ -140,6 +140,7 @@ all_reads rule = reads_in rule.wheres rule.sets ++ flat_map (λ multi. reads_in 
 abbrev pub kernel_reads : Rule → List SlotRead
 kernel_reads rule = filter (λ read. nat_lt read.node (length rule.shape.nodes)) (all_reads rule)
 
+-- A rule over the metamodel. Parameters have names of their own, and so have the nodes of the kernel and all its blocks.
 pub record IsRule (m : Meta) (rule : Rule) : Type 0 where
   pub params_differ : Differ (map (λ param. param.name) rule.params)
   pub params_fit : All (λ param. ParamFits rule.shape.nodes param param.kind) rule.params

@@ -1,6 +1,6 @@
 -- Typed graphs: objects of concrete classes with their slots, and edges between them.
-use Rattle.std.specs.Prelude.{ℕ, zero, suc, ◌+◌, ◌<◌, ◌≡◌, List, ◌∷◌, [], map, length, true, eqb, Option, None, IsSomeAnd}
-use Rattle.std.specs.List.{All, Any, find, range_with_len}
+use Rattle.std.specs.Prelude.{ℕ, zero, suc, ◌+◌, ◌<◌, ◌≤◌, ◌≡◌, ◌⊎◌, List, ◌∷◌, [], map, length, true, eqb, Option, None, IsSomeAnd}
+use Rattle.std.specs.List.{All, Any, find, position_or_len, range_with_len}
 use Rattle.std.specs.Option.{option_map, option_and_then}
 use Rattle.std.specs.Int.Digits.{digits_of}
 use Rattle.hs_expr.specs.declared.value.Value.{Value}
@@ -11,7 +11,7 @@ use Rattle.hs_types.specs.declared.graph.Slot.{Slot}
 use Rattle.hs_types.specs.declared.meta.Meta.{Meta}
 use Rattle.hs_types.specs.declared.rule.SlotKind.{SlotKind}
 use Rattle.hs_types.specs.declared.rule.SlotKind.TheVariants.{Attribute, Link, Container}
-use Rattle.hs_types.specs.Lists.{has, same_text, Differ, Rise}
+use Rattle.hs_types.specs.Lists.{has, same_text, Differ, EachPair, Rise}
 use Rattle.hs_types.specs.Metamodel.{Conforms, IsConcrete, attributes_of, features_of, fits, target_of}
 
 -- What stands at a number.
@@ -72,11 +72,16 @@ pub record IsTyped (m : Meta) (g : Graph) : Type 0 where
   pub objects_fit : All (λ object. AreSlotsOf m object.class object.slots) g.objects
   pub edges_fit : All (λ edge. CanJoin m g edge.source edge.reference edge.target) g.edges
 
--- A graph from which a journal begins: numbers begin at 0 and leave none out, and the next name is the first above all names of this form.
+-- Edges stand object by object, and of one object in the order of its class's features.
+abbrev pub EdgeBefore : Meta → Graph → Edge → Edge → Type 0
+EdgeBefore m g e f = (e.source < f.source) ⊎ ((e.source ≡ f.source) × Stands g (λ c. position_or_len (eqb e.reference) (features_of m c) ≤ position_or_len (eqb f.reference) (features_of m c)) e.source)
+
+-- A graph from which a journal begins: numbers are places, and the next name is the first above all names of this form.
 pub record IsOpening (m : Meta) (g : Graph) : Type 0 where
   pub typed : IsTyped m g
   pub objects_numbered : map (λ object. object.number) g.objects ≡ range_with_len 0 (length g.objects)
   pub edges_numbered : map (λ edge. edge.number) g.edges ≡ range_with_len 0 (length g.edges)
+  pub edges_in_order : EachPair (EdgeBefore m g) g.edges
   pub next_object : g.next_object ≡ length g.objects
   pub next_edge : g.next_edge ≡ length g.edges
   pub next_name : (k : ℕ) → suc k ≡ g.next_name → Any (λ object. object.name ≡ hash_name k) g.objects

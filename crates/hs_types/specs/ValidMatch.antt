@@ -8,7 +8,7 @@ use Rattle.hs_types.specs.declared.request.Args.{Args}
 use Rattle.hs_types.specs.declared.rule.Rule.{Rule}
 use Rattle.hs_types.specs.Arguments.{Follows}
 use Rattle.hs_types.specs.Conditions.{env_of, AreTrue, AreFit, IsAbsent, IsPresent}
-use Rattle.hs_types.specs.Copies.{AreCopies, NoneTouch, copies_of}
+use Rattle.hs_types.specs.Copies.{AreCopies, CopyFits, NoneTouch, copies_of}
 use Rattle.hs_types.specs.Dangling.{dropped_nodes, dropped_edges, NoneDangle}
 use Rattle.hs_types.specs.MatchOrder.{IsEarlier}
 use Rattle.hs_types.specs.Pattern.{left_nodes}
@@ -31,6 +31,7 @@ pub record IsValid (m : Meta) (g : Graph) (rule : Rule) (args : Args) (f : Match
   pub forbids : All (IsAbsent m g rule (kernel_of f)) rule.forbids
   pub needs : All (IsPresent m g rule (kernel_of f)) rule.needs
   pub copies : AllZip (AreCopies m g rule args (kernel_of f)) rule.multis f.copies
+  pub copies_fit : All (CopyFits m g rule args (kernel_of f)) (copies_of rule f)
   pub none_touch : NoneTouch rule f
 
 abbrev pub NoneIsValid : Meta → Graph → Rule → Args → Type 0
@@ -44,3 +45,16 @@ pub record IsLeast (m : Meta) (g : Graph) (rule : Rule) (args : Args) (f : Match
 -- What a search for the rule answers: the least valid match, or nothing where none is valid.
 abbrev pub IsFirst : Meta → Graph → Rule → Args → Option Match → Type 0
 IsFirst m g rule args answer = MatchOption answer (NoneIsValid m g rule args) (IsLeast m g rule args)
+
+-- It is valid and comes after one, and none between is valid.
+pub record IsLeastAfter (m : Meta) (g : Graph) (rule : Rule) (args : Args) (after f : Match) : Type 0 where
+  pub valid : IsValid m g rule args f
+  pub later : IsEarlier (kernel_of after) (kernel_of f)
+  pub least : (h : Match) → IsValid m g rule args h → IsEarlier (kernel_of after) (kernel_of h) → IsEarlier (kernel_of h) (kernel_of f) → ⊥
+
+abbrev pub NoneIsAfter : Meta → Graph → Rule → Args → Match → Type 0
+NoneIsAfter m g rule args after = (f : Match) → IsValid m g rule args f → IsEarlier (kernel_of after) (kernel_of f) → ⊥
+
+-- What a search answers behind a match: the next valid one in order, or nothing where no later one is valid.
+abbrev pub IsNext : Meta → Graph → Rule → Args → Match → Option Match → Type 0
+IsNext m g rule args after answer = MatchOption answer (NoneIsAfter m g rule args after) (IsLeastAfter m g rule args after)

@@ -1,0 +1,47 @@
+ghost use Rattle.std.specs.Prelude.{◌≡◌, ◌++◌, ◌∷◌, ℕ, List, [], length, take};
+ghost use Rattle.std.specs.List.{All};
+ghost use Rattle.hs_types.specs.declared.entry.Cause.{Cause};
+ghost use Rattle.hs_types.specs.declared.entry.Entry.{Entry};
+ghost use Rattle.hs_types.specs.declared.entry.Outcome.TheVariants.{Missed};
+ghost use Rattle.hs_types.specs.declared.entry.Tried.{Tried};
+ghost use Rattle.hs_types.specs.declared.graph.Graph.{Graph};
+ghost use Rattle.hs_types.specs.declared.unit.RuleSet.{RuleSet};
+ghost use Rattle.hs_types.specs.Journal.{IsLawful, IsLawfulEntry, IsLawfulWritten, IsUnlawfulAt, after_entry, after_journal, after_try, meta_of};
+ghost use Rattle.hs_types.specs.Metamodel.{IsMeta};
+ghost use Rattle.hs_types.specs.RuleForm.{IsRule};
+ghost use Rattle.hs_types.specs.TypedGraph.{IsTyped};
+
+/// What stands in front in a lawful journal is lawful, and the graph at each of its places is typed.
+pub fn journals_stay_lawful()
+    ensures prefixes { (set : RuleSet) (opening : Graph) (entries : List Entry) (n : ℕ)
+        → IsLawful set opening entries → IsLawful set opening (take n entries) }
+    ensures typed { (set : RuleSet) (opening : Graph) (entries : List Entry) (n : ℕ)
+        → IsMeta (meta_of set) → All (IsRule (meta_of set)) set.rules → IsTyped (meta_of set) opening
+        → IsLawful set opening entries
+        → IsTyped (meta_of set) (after_journal set opening (take n entries)) }
+{}
+
+/// A lawful journal goes on with each entry that is lawful behind it, and its graph with the entry's.
+pub fn journals_go_on()
+    ensures lawful { (set : RuleSet) (opening : Graph) (entries : List Entry) (entry : Entry)
+        → IsLawful set opening entries
+        → IsLawfulEntry set entries (after_journal set opening entries) (length entries) entry
+        → IsLawful set opening (entries ++ entry ∷ []) }
+    ensures graph { (set : RuleSet) (opening : Graph) (entries : List Entry) (entry : Entry)
+        → after_journal set opening (entries ++ entry ∷ []) ≡ after_entry set (after_journal set opening entries) entry }
+{}
+
+/// A written journal isn't both lawful and, for some cause, unlawful somewhere; and where it isn't
+/// lawful, there is one first entry and one first cause.
+pub fn lawful_or_not()
+    ensures one_cause { (set : RuleSet) (opening : Graph) (written : List (ℕ × Entry)) (p q : ℕ) (c d : Cause)
+        → IsUnlawfulAt set opening written p c → IsUnlawfulAt set opening written q d → (p ≡ q) × (c ≡ d) }
+    ensures not_both { (set : RuleSet) (opening : Graph) (written : List (ℕ × Entry)) (position : ℕ) (asked : Cause)
+        → IsUnlawfulAt set opening written position asked → IsLawfulWritten set opening written → ⊥ }
+{}
+
+/// An attempt that missed leaves the graph as it was.
+pub fn missed_attempts_change_nothing()
+    ensures { (set : RuleSet) (g : Graph) (tried : Tried)
+        → tried.outcome ≡ Missed → after_try set g tried ≡ g }
+{}

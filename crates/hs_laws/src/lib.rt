@@ -1,0 +1,29 @@
+//! Laws of the definitions, and examples of them.
+//!
+//! Each law is the contract of a function that does nothing: what its clauses say is true of every
+//! metamodel, graph, rule, match and journal. They are the reasons to believe that the definitions
+//! in the crates below say what they should, and other crates cite the lemmas behind them.
+#![tactic(auto)]
+
+mod conformance;
+mod evaluation;
+mod examples;
+mod journals;
+mod order;
+mod sparing;
+mod steps;
+
+pub use conformance::conformance_is_an_order;
+pub use evaluation::{no_value_means_overflow, values_by_form, values_have_their_kinds};
+pub use examples::{
+    arguments, conditions, copies, dangling, expressions, graphs, journals_told, metamodels,
+    orders, plain_matches, steps_made, transfers,
+};
+pub use journals::{
+    journals_go_on, journals_stay_lawful, lawful_or_not, missed_attempts_change_nothing,
+};
+pub use order::{least_is_unique, order_is_total};
+pub use sparing::spared_matches_stay_valid;
+pub use steps::{
+    nothing_dangles_without_deletion, plans_fit, steps_change_what_they_name, steps_stay_typed,
+};

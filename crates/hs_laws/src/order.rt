@@ -1,0 +1,32 @@
+ghost use Rattle.std.specs.Prelude.{◌≡◌, ◌⊎◌, ◌++◌, ℕ, Option, length};
+ghost use Rattle.hs_types.specs.declared.graph.Graph.{Graph};
+ghost use Rattle.hs_types.specs.declared.matching.Extension.{Extension};
+ghost use Rattle.hs_types.specs.declared.matching.Match.{Match};
+ghost use Rattle.hs_types.specs.declared.meta.Meta.{Meta};
+ghost use Rattle.hs_types.specs.declared.request.Args.{Args};
+ghost use Rattle.hs_types.specs.declared.rule.Rule.{Rule};
+ghost use Rattle.hs_types.specs.MatchOrder.{IsBefore, IsEarlier};
+ghost use Rattle.hs_types.specs.PlainMatch.{kernel_of};
+ghost use Rattle.hs_types.specs.ValidMatch.{IsFirst, IsLeast, IsValid};
+
+/// Of two different extensions exactly one is the earlier. Where they have as many nodes, it is the one
+/// whose nodes and edges, one list behind the other, come first.
+pub fn order_is_total()
+    ensures irreflexive { (x : Extension) → IsEarlier x x → ⊥ }
+    ensures transitive { (x y z : Extension) → IsEarlier x y → IsEarlier y z → IsEarlier x z }
+    ensures one_list { (x y : Extension) → length x.nodes ≡ length y.nodes
+        → (IsEarlier x y → IsBefore (x.nodes ++ x.edges) (y.nodes ++ y.edges))
+        × (IsBefore (x.nodes ++ x.edges) (y.nodes ++ y.edges) → IsEarlier x y) }
+    ensures total { (x y : Extension) → IsEarlier x y ⊎ ((x ≡ y) ⊎ IsEarlier y x) }
+{}
+
+/// A valid match is determined by its kernel, and the answer to a search by the graph, the rule and
+/// the arguments.
+pub fn least_is_unique()
+    ensures by_kernel { (m : Meta) (g : Graph) (rule : Rule) (args : Args) (f h : Match)
+        → IsValid m g rule args f → IsValid m g rule args h → kernel_of f ≡ kernel_of h → f ≡ h }
+    ensures least { (m : Meta) (g : Graph) (rule : Rule) (args : Args) (f h : Match)
+        → IsLeast m g rule args f → IsLeast m g rule args h → f ≡ h }
+    ensures first { (m : Meta) (g : Graph) (rule : Rule) (args : Args) (a b : Option Match)
+        → IsFirst m g rule args a → IsFirst m g rule args b → a ≡ b }
+{}
