@@ -1,4 +1,4 @@
-use Rattle.std.proofs.Common.{ℕ, ◌+◌, ◌<◌, ◌≡◌, List, [], ◌∷◌, ◌++◌, Bool, true, false, Some, slice_get, refl}
+use Rattle.std.proofs.Common.{ℕ, List, Bool}
 use Rattle.hs_types.specs.declared.meta.Meta.{Meta}
 use Rattle.hs_types.specs.Metamodel.{Conforms, HasSuper, itself, above}
 use Rattle.hs_finding.specs.Conformance.{IsReached, IsClosed}

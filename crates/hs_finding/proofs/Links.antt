@@ -1,8 +1,5 @@
 use Rattle.std.proofs.Common.{ℕ, ◌+◌, ◌<◌, ◌≤◌, ◌≡◌, ◌⊎◌, List, ◌++◌, ◌∷◌, length, take, append_assoc, length-append, eq-eqb, slice_get, Some, None, Option, refl, arith, ap, inl, inr, sym, ◌∙◌}
-use Rattle.std.specs.Prelude.{IfSome, MatchOption}
 use Rattle.std.proofs.lemmas.Bool.{cases_lt}
-use Rattle.std.proofs.lemmas.Option.{slice_get_within}
-use Rattle.std.proofs.Math.Nat.{eq-or-lt_of_le}
 use Rattle.std.proofs.Math.Seq.{get_or-append_seam}
 use Rattle.std.proofs.lemmas.List.{get_or_append_left}
 use Rattle.hs_finding.proofs.Ordered.{find_place}
@@ -14,7 +11,7 @@ use Rattle.hs_types.specs.Pattern.{left_nodes}
 use Rattle.hs_types.specs.PlainMatch.{image, IsImage}
 use Rattle.hs_finding.specs.declared.link.Link.{Link}
 use Rattle.hs_finding.specs.declared.link.Link.TheVariants.{From, Into}
-use Rattle.hs_finding.specs.Candidates.{IsNext, IsLeastFrom, NoneFrom}
+use Rattle.hs_finding.specs.Candidates.{IsNext, NoneFrom}
 use Rattle.hs_finding.specs.Linked.{far_end, IsBefore, IsLinked, IsLinkedBefore, Takes, Keeps}
 
 -- one more edge

@@ -1,11 +1,8 @@
-use Rattle.std.proofs.Common.{◌↔◌, set, replicate, slice_get, Some, ap, zero, suc, ℕ, ◌+◌, ◌<◌, ◌≤◌, ◌≡◌, ◌⊎◌, List, [], ◌∷◌, ◌++◌, length, take, get_or, Bool, true, false, refl, arith, rules, sym, ◌∙◌, inl, inr}
+use Rattle.std.proofs.Common.{◌↔◌, set, replicate, slice_get, Some, ap, zero, suc, ℕ, ◌+◌, ◌<◌, ◌≡◌, ◌⊎◌, List, [], ◌∷◌, ◌++◌, length, take, get_or, Bool, true, false, refl, arith, rules, inl, inr}
 use Rattle.std.proofs.Math.ListN.{length-replicate}
 use Rattle.std.proofs.lemmas.Option.{get_or_from_slice_get}
 use Rattle.std.proofs.lemmas.List.{take_more}
-use Rattle.std.proofs.lemmas.List.Folds.{list_any-append}
 use Rattle.std.proofs.lemmas.Grind.{common_steps}
-use Rattle.std.specs.Prelude.{eqb, nat_eq, ◌||◌}
-use Rattle.std.specs.List.{list_any}
 use Rattle.hs_types.specs.Lists.{has}
 
 pub has-here : (n : ℕ) (ns : List ℕ) → has (n ∷ ns) n ≡ true

@@ -1,4 +1,4 @@
-use Rattle.std.proofs.Common.{ℕ, ◌+◌, ◌<◌, ◌≤◌, ◌≡◌, ◌⊎◌, List, length, slice_get, Some, None, Option, refl, arith, ap, inl, inr, sym, ◌∙◌}
+use Rattle.std.proofs.Common.{ℕ, ◌+◌, ◌<◌, ◌≤◌, ◌≡◌, List, length, slice_get, Some, None, Option, refl, arith, ap, inl, inr, ◌∙◌}
 use Rattle.std.specs.Prelude.{IsSomeAnd}
 use Rattle.std.proofs.Math.Nat.{eq-or-lt_of_le}
 use Rattle.std.proofs.lemmas.Bool.{cases_lt}
@@ -8,7 +8,7 @@ use Rattle.hs_types.specs.declared.graph.Graph.{Graph}
 use Rattle.hs_types.specs.declared.graph.Object.{Object}
 use Rattle.hs_types.specs.declared.meta.Meta.{Meta}
 use Rattle.hs_types.specs.Metamodel.{Conforms}
-use Rattle.hs_types.specs.TypedGraph.{object_at, edge_at, IsOf}
+use Rattle.hs_types.specs.TypedGraph.{object_at, edge_at}
 use Rattle.hs_finding.specs.Candidates.{Ascend, IsLeastFrom, NoneFrom, IsFree, IsFreeEdge, MayBe, MayJoin}
 use Rattle.hs_finding.proofs.Ordered.{find_here, find_place}
 

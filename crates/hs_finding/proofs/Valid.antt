@@ -1,8 +1,7 @@
-use Rattle.std.proofs.Common.{ℕ, zero, suc, ◌+◌, ◌<◌, ◌≤◌, ◌≡◌, ◌⊎◌, List, [], ◌∷◌, ◌++◌, length, take, drop, map, slice_get, get_or, Option, Some, None, Bool, true, false, cond, refl, arith, rules, ap, sym, ◌∙◌, inl, inr, length-append}
-use Rattle.std.specs.Prelude.{IfSome, IfNone, MatchOption}
-use Rattle.std.specs.List.{All, AllZip, filter, flat_map}
-use Rattle.std.proofs.lemmas.Grind.{common_steps}
-use Rattle.std.proofs.lemmas.List.{append-nil, take_at, drop_at, take-append-drop, length-take-le}
+use Rattle.std.proofs.Common.{ℕ, zero, suc, ◌+◌, ◌<◌, ◌≤◌, ◌≡◌, List, [], ◌∷◌, ◌++◌, length, take, drop, map, slice_get, Option, Some, Bool, false, refl, arith, sym, ◌∙◌, inl, inr}
+use Rattle.std.specs.Prelude.{IfSome, IfNone}
+use Rattle.std.specs.List.{All, AllZip}
+use Rattle.std.proofs.lemmas.List.{take-append-drop}
 use Rattle.std.proofs.lemmas.List.Elements.{All-nil, All-head, All-tail, All-filter}
 use Rattle.std.proofs.lemmas.Slice.Zip.{AllZip-long}
 use Rattle.arrayvec.specs.ArrayVec.{ArrayVec}
@@ -11,17 +10,15 @@ use Rattle.hs_types.specs.declared.graph.Graph.{Graph}
 use Rattle.hs_types.specs.declared.matching.Extension.{Extension}
 use Rattle.hs_types.specs.declared.matching.Match.{Match}
 use Rattle.hs_types.specs.declared.meta.Meta.{Meta}
-use Rattle.hs_types.specs.declared.rule.PatternEdge.{PatternEdge}
 use Rattle.hs_types.specs.declared.rule.PatternNode.{PatternNode}
 use Rattle.hs_types.specs.declared.rule.Rule.{Rule}
 use Rattle.hs_types.specs.declared.rule.Shape.{Shape}
 use Rattle.hs_types.specs.Arguments.{Follows}
-use Rattle.hs_types.specs.Dangling.{dropped_nodes, dropped_edges, NoneDangle}
-use Rattle.hs_types.specs.Lists.{has, Rise, beside}
+use Rattle.hs_types.specs.Dangling.{dropped_nodes}
+use Rattle.hs_types.specs.Lists.{Rise, beside}
 use Rattle.hs_types.specs.MatchOrder.{IsBefore, IsEarlier}
 use Rattle.hs_types.specs.Pattern.{is_left, is_drop, left_nodes, left_edges}
-use Rattle.hs_types.specs.PlainMatch.{image, IsImage, Extends, IsPlain, kernel_of}
-use Rattle.hs_types.specs.TypedGraph.{IsOf}
+use Rattle.hs_types.specs.PlainMatch.{IsPlain, kernel_of}
 use Rattle.hs_types.specs.ValidMatch.{IsValid, NoneIsValid, IsFirst, all_dropped_nodes, all_dropped_edges}
 use Rattle.hs_types.specs.ValidMatch as valid
 use Rattle.hs_finding.specs.Candidates.{Ascend}
@@ -107,6 +104,7 @@ valid_plain m g rule f adds plain none =
       forbids = rw adds.forbids (All-nil _);
       needs = rw adds.needs (All-nil _);
       copies = rw (adds.multis, none) tt;
+      copies_fit = rw adds.multis (All-nil _);
       none_touch = rw (adds.multis) tt;
     }
 

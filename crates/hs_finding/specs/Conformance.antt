@@ -1,6 +1,6 @@
 use Rattle.std.specs.Prelude.{ℕ, ◌≡◌, List, Bool, true, false, Some, slice_get}
 use Rattle.hs_types.specs.declared.meta.Meta.{Meta}
-use Rattle.hs_types.specs.Metamodel.{Conforms, HasSuper}
+use Rattle.hs_types.specs.Metamodel.{HasSuper}
 
 -- The table has the class.
 abbrev pub IsReached : List Bool → ℕ → Type 0

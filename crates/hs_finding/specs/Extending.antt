@@ -5,10 +5,9 @@ use Rattle.hs_types.specs.declared.meta.Meta.{Meta}
 use Rattle.hs_types.specs.declared.rule.PatternEdge.{PatternEdge}
 use Rattle.hs_types.specs.declared.rule.PatternNode.{PatternNode}
 use Rattle.hs_types.specs.declared.rule.Shape.{Shape}
-use Rattle.hs_types.specs.Lists.{has, Differ}
+use Rattle.hs_types.specs.Lists.{has}
 use Rattle.hs_types.specs.Pattern.{left_nodes, left_edges}
 use Rattle.hs_types.specs.PlainMatch.{image, IsImage, Extends}
-use Rattle.hs_types.specs.TypedGraph.{IsOf}
 use Rattle.hs_finding.specs.Candidates.{IsFree}
 
 -- What an extension begins from, and what it goes on to.

@@ -1,4 +1,4 @@
-use Rattle.std.specs.Prelude.{ℕ, ◌+◌, ◌≤◌, ◌≡◌, List, [], false, length, map}
+use Rattle.std.specs.Prelude.{◌+◌, ◌≤◌, ◌≡◌, [], false, length, map}
 use Rattle.std.specs.List.{All}
 use Rattle.hs_types.specs.declared.graph.Graph.{Graph}
 use Rattle.hs_types.specs.declared.request.Args.{Args}

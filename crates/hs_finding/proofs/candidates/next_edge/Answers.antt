@@ -1,8 +1,8 @@
-use Rattle.std.proofs.Common.{List, subst, ℕ, ◌≡◌, ◌≤◌, ◌<◌, ◌++◌, slice_get, Some, arith, rules, refl, sym, length}
+use Rattle.std.proofs.Common.{List, subst, ◌≡◌, ◌≤◌, ◌<◌, ◌++◌, slice_get, Some, arith, refl}
 use Rattle.std.specs.Prelude.{slice_index_or}
 use Rattle.std.proofs.lemmas.Option.{slice_get-get_or}
 use Rattle.hs_types.specs.declared.graph.Edge.{Edge}
-use Rattle.hs_finding.specs.Candidates.{IsFreeEdge, MayJoin}
+use Rattle.hs_finding.specs.Candidates.{MayJoin}
 use Rattle.hs_finding.proofs.Scans.{skip_one, least_here, none_left, edge_here, edge_stands}
 use Rattle.hs_finding.proofs.candidates.next_edge.Goals as goal
 use Rattle.hs_finding.proofs.candidates.next_edge.Goals.{else-from-via-then-from+else-may_join, else-from-via-else-from}

@@ -1,4 +1,4 @@
-use Rattle.std.proofs.Common.{ℕ, ◌≡◌, ◌≤◌, ◌<◌, ◌++◌, slice_get, Some, arith, rules, refl, sym, length}
+use Rattle.std.proofs.Common.{◌≡◌, ◌≤◌, ◌++◌, slice_get, Some, refl}
 use Rattle.std.proofs.lemmas.Option.{slice_get_read}
 use Rattle.hs_types.specs.declared.graph.Object.{Object}
 use Rattle.hs_finding.specs.Candidates.{MayBe}

@@ -1,4 +1,4 @@
-use Rattle.std.proofs.Common.{eq-eqb, sym}
+use Rattle.std.proofs.Common.{eq-eqb}
 use Rattle.hs_types.specs.Metamodel.{itself}
 use Rattle.hs_finding.proofs.conformance.conforms.Goals as goal
 

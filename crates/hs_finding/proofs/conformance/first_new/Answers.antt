@@ -1,6 +1,4 @@
-use Rattle.std.proofs.Common.{slice_get, Some, true, ◌≡◌, ◌⊎◌, inl, inr, rules, refl}
-use Rattle.std.proofs.lemmas.Option.{slice_get_read}
-use Rattle.hs_finding.specs.Conformance.{IsReached}
+use Rattle.std.proofs.Common.{inl, inr}
 use Rattle.hs_finding.proofs.Lists.{has-take, read_true}
 use Rattle.hs_finding.proofs.conformance.first_new.Goals as goal
 

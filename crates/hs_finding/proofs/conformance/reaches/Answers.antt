@@ -1,9 +1,8 @@
-use Rattle.std.proofs.Common.{ℕ, ◌+◌, ◌<◌, ◌≡◌, ◌⊎◌, Bool, true, false, IsTrue, Some, slice_get, length, cond, get_or, set, refl, arith, inl, inr, sym}
-use Rattle.std.specs.List.{sum_by}
+use Rattle.std.proofs.Common.{◌≡◌, Bool, true, false, cond, get_or, refl, arith, inl, inr}
 use Rattle.std.proofs.lemmas.List.Sums.{sum_by-set}
 use Rattle.std.proofs.lemmas.Option.{get_or_from_slice_get, slice_get_within}
-use Rattle.hs_types.specs.Metamodel.{Conforms, itself}
-use Rattle.hs_finding.specs.Conformance.{IsReached, IsFurther}
+use Rattle.hs_types.specs.Metamodel.{itself}
+use Rattle.hs_finding.specs.Conformance.{IsFurther}
 use Rattle.hs_finding.proofs.Conforming.{Conforms-step, closed-reaches}
 use Rattle.hs_finding.proofs.Lists.{read_true, true_read, set_true, set_kept}
 use Rattle.hs_finding.proofs.conformance.reaches.Goals as goal

@@ -1,4 +1,4 @@
-use Rattle.std.proofs.Common.{ℕ, ◌≡◌, length, cond, get_or, true, false, Bool}
+use Rattle.std.proofs.Common.{ℕ, cond}
 use Rattle.std.specs.List.{sum_by}
 use Rattle.hs_types.specs.Metamodel.{Conforms}
 use Rattle.hs_finding.specs.Conformance.{IsReached}

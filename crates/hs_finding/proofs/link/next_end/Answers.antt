@@ -1,8 +1,8 @@
-use Rattle.std.proofs.Common.{ℕ, ◌≡◌, ◌<◌, ◌≤◌, ◌++◌, ◌⊎◌, List, subst, slice_get, Some, inl, inr, arith, rules, length}
+use Rattle.std.proofs.Common.{◌≡◌, ◌≤◌, ◌++◌, ◌⊎◌, List, subst, slice_get, Some, inl, inr, arith, length}
 use Rattle.std.specs.Prelude.{slice_index_or}
 use Rattle.std.proofs.lemmas.Option.{slice_get-get_or, slice_get_within}
 use Rattle.hs_types.specs.declared.graph.Edge.{Edge}
-use Rattle.hs_finding.specs.Candidates.{IsFree, IsNext}
+use Rattle.hs_finding.specs.Candidates.{IsFree}
 use Rattle.hs_finding.specs.Linked.{IsLinked, IsLinkedBefore, Takes, Keeps, far_end}
 use Rattle.hs_finding.proofs.Links.{takes_next, keeps_next, IsNext-iff}
 use Rattle.hs_finding.proofs.link.next_end.Goals as goal

@@ -1,4 +1,4 @@
-use Rattle.std.proofs.Common.{ℕ, ◌++◌}
+use Rattle.std.proofs.Common.{◌++◌}
 use Rattle.hs_finding.specs.Candidates.{IsFree, IsNext}
 use Rattle.hs_finding.specs.Linked.{IsLinkedBefore}
 use Rattle.hs_finding.proofs.link.next_end.Given as goal

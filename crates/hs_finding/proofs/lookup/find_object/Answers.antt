@@ -1,4 +1,4 @@
-use Rattle.std.proofs.Common.{◌≡◌, ◌∙◌, sym, rules, Some, None, slice_get}
+use Rattle.std.proofs.Common.{◌≡◌, sym, rules, Some, None, slice_get}
 use Rattle.hs_types.specs.declared.graph.Object.{Object}
 use Rattle.hs_finding.proofs.Ordered.{find_here, place_none, place_other}
 use Rattle.hs_finding.proofs.lookup.find_object.Goals as goal

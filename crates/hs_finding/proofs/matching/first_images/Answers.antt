@@ -1,8 +1,5 @@
-use Rattle.std.proofs.Common.{◌≡◌, ◌+◌, length, ℕ}
-use Rattle.std.specs.Prelude.{IfSome, IfNone}
+use Rattle.std.proofs.Common.{◌≡◌, ◌+◌, length}
 use Rattle.hs_types.specs.Pattern.{left_nodes, left_edges}
-use Rattle.hs_search.specs.Choice.{IsChoice, IsLeast, IsNone}
-use Rattle.hs_finding.specs.Extending.{Sought, AreImages}
 use Rattle.hs_finding.specs.Kernel.{kernel}
 use Rattle.hs_finding.specs.View.{sought}
 use Rattle.hs_finding.proofs.Valid.{least_as, none_as}

@@ -1,8 +1,8 @@
-use Rattle.std.proofs.Common.{refl, rules, ◌≡◌, ◌++◌, slice_get, ap, ◌∙◌, sym}
-use Rattle.std.specs.Prelude.{unwrap_or, option_copied}
+use Rattle.std.proofs.Common.{◌≡◌, ◌++◌, slice_get, ◌∙◌}
+use Rattle.std.specs.Prelude.{option_copied}
 use Rattle.std.proofs.lemmas.Option.{unwrap_or-slice_get}
 use Rattle.std.proofs.lemmas.Iterator.{YieldsList-from_slice}
-use Rattle.std.proofs.lemmas.Iterator.Consumers.{nth_from_yields_List, YieldsList-from_filter, YieldsList-from_chain}
+use Rattle.std.proofs.lemmas.Iterator.Consumers.{nth_from_yields_List, YieldsList-from_chain}
 use Rattle.hs_finding.proofs.pattern.image_of.Goals as goal
 
 pub returns : goal.returns

@@ -1,7 +1,7 @@
-use Rattle.std.proofs.Common.{List, ℕ, ◌++◌, ◌∷◌, [], ◌+◌, ◌-◌, ◌≤◌, ◌≡◌, length, slice_get, Some, None, take, drop, arith, rules, sym}
+use Rattle.std.proofs.Common.{◌++◌, ◌∷◌, [], ◌+◌, ◌-◌, ◌≤◌, ◌≡◌, length, slice_get, Some, take, drop, sym}
 use Rattle.hs_search.specs.Choice.{IsChoice}
 use Rattle.hs_types.specs.Pattern.{left_nodes, left_edges}
-use Rattle.hs_finding.specs.Candidates.{IsFree, IsNext}
+use Rattle.hs_finding.specs.Candidates.{IsNext}
 use Rattle.hs_finding.specs.Extending.{AreImages, EdgeFits}
 use Rattle.hs_finding.specs.View.{sought}
 use Rattle.hs_finding.proofs.Images.{object_passed, object_none, edge_in_choice_at, next_passed, next_none}

@@ -1,5 +1,4 @@
-use Rattle.std.proofs.Common.{◌≡◌, ◌<◌, ◌+◌, ◌++◌, ◌∷◌, length, take, sym, ◌∙◌, arith}
-use Rattle.hs_types.specs.Pattern.{left_nodes}
+use Rattle.std.proofs.Common.{◌≡◌, ◌++◌, ◌∷◌, sym, ◌∙◌}
 use Rattle.hs_types.specs.PlainMatch.{image}
 use Rattle.hs_finding.proofs.Links.{image_here, image_before, linked_from, linked_into}
 use Rattle.hs_finding.proofs.extending.Extending.link_of.Goals as goal
