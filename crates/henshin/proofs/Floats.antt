@@ -1,15 +1,12 @@
 -- No line of a report has a float.
-use Rattle.std.proofs.Common.{ℕ, ◌≡◌, List, [], ◌∷◌, map, Bool, true, false, ◌||◌, refl, arith, codes, ◌++◌, pos, negsuc}
-use Rattle.std.proofs.lemmas.Grind.{common_steps}
+use Rattle.std.proofs.Common.{ℕ, ◌≡◌, List, [], ◌∷◌, map, Bool, true, false, ◌||◌, refl, ◌++◌, pos, negsuc}
 use Rattle.std.specs.List.{flat_map}
 use Rattle.std.specs.Ordering.{nat_cmp, match_ordering}
 use Rattle.std.specs.declared.cmp.Ordering.{Ordering}
 use Rattle.std.specs.declared.cmp.Ordering.TheVariants.{Less, Equal, Greater}
 use Rattle.std.specs.Cmp.Lexicographic.{slice_cmp}
-use Rattle.std.specs.Option.{unwrap_or}
 use Rattle.serde_json.specs.Data.{Data, string, Members, no_members, member, put}
-use Rattle.serde_json.specs.Written.{has_float, items_have_float, members_have_float}
-use Rattle.serde_json.specs.View.{items_of}
+use Rattle.serde_json.specs.Written.{has_float, members_have_float}
 use Rattle.hs_expr.specs.declared.value.Value.{Value}
 use Rattle.hs_expr.specs.declared.value.Value.TheVariants as value
 use Rattle.hs_types.specs.declared.entry.Entry.{Entry}
@@ -20,7 +17,6 @@ use Rattle.hs_types.specs.declared.entry.Outcome.TheVariants as outcome
 use Rattle.hs_types.specs.declared.entry.Tried.{Tried}
 use Rattle.hs_types.specs.declared.entry.What.{What}
 use Rattle.hs_types.specs.declared.entry.What.TheVariants as what
-use Rattle.hs_types.specs.declared.graph.Edge.{Edge}
 use Rattle.hs_types.specs.declared.graph.Graph.{Graph}
 use Rattle.hs_types.specs.declared.graph.Object.{Object}
 use Rattle.hs_types.specs.declared.graph.Slot.{Slot}
@@ -30,12 +26,8 @@ use Rattle.hs_types.specs.declared.request.Arg.TheVariants as arg
 use Rattle.hs_types.specs.declared.request.Args.{Args}
 use Rattle.hs_types.specs.declared.unit.RuleSet.{RuleSet}
 use Rattle.hs_types.specs.Metamodel.{features_of}
-use Rattle.hs_types.specs.TypedGraph.{name_at}
 use Rattle.henshin.specs.declared.report.Out.{Out}
 use Rattle.henshin.specs.declared.report.Reply.{Reply}
-use Rattle.henshin.specs.declared.report.Report.{Report}
-use Rattle.henshin.specs.declared.report.Word.{Word}
-use Rattle.henshin.specs.declared.report.Word.TheVariants as word
 use Rattle.henshin.specs.ReportText.{Member, with_members, object_data, list_data, number_data, value_data, arg_data, args_data, attrs_data, extension_members, extension_data, gone_members, gone_data, outcome_members, tried_members, what_members, place_members, entry_data, outs_data, reply_members, reply_data, feature_name, targets_of, edges_from, name_in, reference_member, refs_members, object_members, object_line, graph_members, graph_data}
 
 abbrev pub HaveNone : List Member → Type 0

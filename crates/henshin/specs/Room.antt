@@ -1,5 +1,5 @@
 -- Room for what a rule makes, among the numbers of objects and edges and those of names.
-use Rattle.std.specs.Prelude.{ℕ, ◌+◌, ◌^◌, ◌≤◌, length}
+use Rattle.std.specs.Prelude.{◌+◌, ◌^◌, ◌≤◌, length}
 use Rattle.hs_types.specs.declared.graph.Graph.{Graph}
 use Rattle.hs_types.specs.declared.rule.Rule.{Rule}
 

@@ -209,24 +209,25 @@ fn tells_a_sink_without_room(rt: HostRuntime) -> Result<(), Fail> {
     Ok(())
 }
 
+/// Checks that these words are refused, and nothing is written.
+fn refuses_words(rt: &impl Abort, alloc: Global, words: &[&str]) -> Result<(), AllocError> {
+    let mut given = Vec::new(alloc);
+    for word in words {
+        given.push(String::from_str(alloc, word)?)?;
+    }
+    let mut source = SourceMem::new(bundle(alloc, OPEN)?, 16, List::new(alloc));
+    let mut sink = SinkMem::new(alloc, 16, 16, List::new(alloc))?;
+    let outcome = once(alloc, given.as_slice(), &mut source, &mut sink);
+    assert_eq!(rt; outcome.status, Status::Usage);
+    assert!(rt; sink.written().is_empty());
+    Ok(())
+}
+
 #[test]
 fn takes_no_other_words(rt: HostRuntime) -> Result<(), Fail> {
-    let alloc = rt.alloc();
-    for words in [
-        [].as_slice(),
-        ["run"].as_slice(),
-        ["apply", "apply"].as_slice(),
-    ] {
-        let mut given = Vec::new(alloc);
-        for word in words {
-            given.push(String::from_str(alloc, word)?)?;
-        }
-        let mut source = SourceMem::new(bundle(alloc, OPEN)?, 16, List::new(alloc));
-        let mut sink = SinkMem::new(alloc, 16, 16, List::new(alloc))?;
-        let outcome = once(alloc, given.as_slice(), &mut source, &mut sink);
-        assert_eq!(rt; outcome.status, Status::Usage);
-        assert!(rt; sink.written().is_empty());
-    }
+    refuses_words(&rt, rt.alloc(), &[])?;
+    refuses_words(&rt, rt.alloc(), &["run"])?;
+    refuses_words(&rt, rt.alloc(), &["apply", "apply"])?;
     Ok(())
 }
 

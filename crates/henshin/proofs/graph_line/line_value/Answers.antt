@@ -1,5 +1,4 @@
-use Rattle.std.proofs.Common.{◌≡◌, ◌∙◌, ap, List}
-use Rattle.hs_types.specs.declared.graph.Edge.{Edge}
+use Rattle.std.proofs.Common.{◌≡◌, ◌∙◌}
 use Rattle.henshin.specs.ReportText.{edges_from, name_in}
 use Rattle.henshin.proofs.Lists.{named}
 use Rattle.henshin.proofs.graph_line.line_value.Goals as goal

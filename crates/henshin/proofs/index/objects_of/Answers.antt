@@ -1,4 +1,4 @@
-use Rattle.std.proofs.Common.{◌≡◌, ◌∙◌, ap, sym, cond, Some, None, eqb, get_or}
+use Rattle.std.proofs.Common.{◌∙◌, ap, sym, cond, Some, None, eqb}
 use Rattle.std.specs.Option.{option_or}
 use Rattle.henshin.proofs.Lists.{find_more}
 use Rattle.henshin.proofs.index.objects_of.Goals as goal

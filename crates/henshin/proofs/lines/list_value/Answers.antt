@@ -1,6 +1,6 @@
 use Rattle.std.proofs.Common.{◌∙◌, ap}
 use Rattle.serde_json.specs.Data.{array}
-use Rattle.serde_json.specs.View.{view, items_of}
+use Rattle.serde_json.specs.View.{items_of}
 use Rattle.serde_json.proofs.Views.{view-Array}
 use Rattle.henshin.proofs.Lists.{none_left}
 use Rattle.henshin.proofs.lines.list_value.Goals as goal

@@ -1,4 +1,4 @@
-use Rattle.std.proofs.Common.{◌≡◌, ◌++◌, List, map, drop, Bor, IfOk}
+use Rattle.std.proofs.Common.{◌≡◌, ◌++◌, map, drop, Bor, IfOk}
 use Rattle.serde_json.specs.Data.{Data}
 use Rattle.serde_json.specs.View.{view}
 use Rattle.henshin.specs.contracts.lines.list_value.F-Fn.{words}

@@ -1,4 +1,4 @@
-use Rattle.std.proofs.Common.{◌≡◌, ◌<◌, ◌≤◌, ◌++◌, ◌∙◌, [], length, take, ap, arith, refl, length-append}
+use Rattle.std.proofs.Common.{◌≡◌, ◌<◌, ◌++◌, ◌∙◌, [], length, take, ap, arith, refl, length-append}
 use Rattle.std.proofs.lemmas.Grind.{common_steps}
 use Rattle.henshin.proofs.Known.{consumes_none, consumes_more, read_whole, read_past}
 use Rattle.henshin.proofs.reading.read_by_pieces.Goals as goal
