@@ -53,8 +53,9 @@ module _ (source : List ℕ) (start : List Symbol) (b : Builder) (t : Token) (ol
 
   pub sub-texts : (n : Part) (mid new : List Symbol) (p : Production) → old ≡ Sub n ∷ mid → production_of n t.kind ≡ Some p → new ≡ right p ++ mid → SameTexts source start b t new c
   sub-texts n mid new p e g h u f = (
-      (λ d. rw h (sub-step n t p mid u c f (rw e at fine) g (rw e at ((texts u f).0 d)))),
-      (λ d. (texts u f).1 (rw e (sub-back n t p mid u c f g (rw h at d)))))
+    (λ d. rw h (sub-step n t p mid u c f (rw e at fine) g (rw e at ((texts u f).0 d)))),
+    (λ d. (texts u f).1 (rw e (sub-back n t p mid u c f g (rw h at d)))),
+  )
 
   pub none-refused : (n : Part) (mid : List Symbol) → old ≡ Sub n ∷ mid → production_of n t.kind ≡ None → Refused source start b t
   none-refused n mid e g u f d = sub-none n t mid u c f g (rw e at ((texts u f).0 d))
@@ -71,8 +72,9 @@ module _ (source : List ℕ) (start : List Symbol) (b : Builder) (old : List Sym
 
   pub end-sub : (n : Part) (mid new : List Symbol) (p : Production) → old ≡ Sub n ∷ mid → empty_of n ≡ Some p → new ≡ right p ++ mid → SameEnds source start b new c
   end-sub n mid new p e g h f = (
-      (λ d. rw h (end-step n p mid c f g (rw e at ((ends f).0 d)))),
-      (λ d. (ends f).1 (rw e (end-back n p mid c f g (rw h at d)))))
+    (λ d. rw h (end-step n p mid c f g (rw e at ((ends f).0 d)))),
+    (λ d. (ends f).1 (rw e (end-back n p mid c f g (rw h at d)))),
+  )
 
   pub end-cut-off : (n : Part) (mid : List Symbol) → old ≡ Sub n ∷ mid → empty_of n ≡ None → IsCutOff source start b
   end-cut-off n mid e g f d = end-none n mid c f g (rw e at ((ends f).0 d))

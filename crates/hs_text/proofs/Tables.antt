@@ -552,9 +552,9 @@ apart n k p e f =
     let both : (is_some (empty_of n) && follows n k) ≡ true = rw (e, f) refl in
     no-choice (choice_of n k) (implied (is_some (empty_of n) && follows n k) (negated (is_some (choice_of n k))) (every (λ j. implies (is_some (empty_of n) && follows n j) (negated (is_some (choice_of n j)))) (apart_rows n) k) both)
   where
-  no-choice : (o : Option Production) → negated (is_some o) ≡ true → o ≡ None
-  no-choice None h = refl
-  no-choice (Some q) h = cc
+    no-choice : (o : Option Production) → negated (is_some o) ≡ true → o ≡ None
+    no-choice None h = refl
+    no-choice (Some q) h = cc
 
 -- 4. the production that is chosen is one of the part, and goes down to the token
 pub level : Part → ℕ

@@ -144,11 +144,11 @@ closing-closes true (c ∷ cs) n h = step (is_escaped c) refl h (λ q. farther-s
 closing-closes false (c ∷ cs) n h =
     step (c == 34) refl (c == 92) refl (nat_le 32 c) refl h (λ q. farther-some true cs (closing_len true cs) n refl q (closing-closes true cs)) (λ q. farther-some false cs (closing_len false cs) n refl q (closing-closes false cs))
   where
-  step : (q : Bool) → (c == 34) ≡ q → (b : Bool) → (c == 92) ≡ b → (l : Bool) → nat_le 32 c ≡ l → cond q (Some 1) (cond b (farther 1 (closing_len true cs)) (cond l (farther 1 (closing_len false cs)) None)) ≡ Some n → (farther 1 (closing_len true cs) ≡ Some n → (m : ℕ) × (n ≡ suc m) × Closed true cs m) → (farther 1 (closing_len false cs) ≡ Some n → (m : ℕ) × (n ≡ suc m) × Closed false cs m) → Closed false (c ∷ cs) n
-  step true q b y l z h escape more = let e : n ≡ 1 = sym (some-is 1 n h) in rw e (rw q refl, omega arith)
-  step false q true y l z h escape more = let r = escape h in rw r.1 (rw (q, y) r.2.0, omega (arith, r.2.1))
-  step false q false y true z h escape more = let r = more h in rw r.1 (rw (q, y, z) r.2.0, omega (arith, r.2.1))
-  step false q false y false z h escape more = cc
+    step : (q : Bool) → (c == 34) ≡ q → (b : Bool) → (c == 92) ≡ b → (l : Bool) → nat_le 32 c ≡ l → cond q (Some 1) (cond b (farther 1 (closing_len true cs)) (cond l (farther 1 (closing_len false cs)) None)) ≡ Some n → (farther 1 (closing_len true cs) ≡ Some n → (m : ℕ) × (n ≡ suc m) × Closed true cs m) → (farther 1 (closing_len false cs) ≡ Some n → (m : ℕ) × (n ≡ suc m) × Closed false cs m) → Closed false (c ∷ cs) n
+    step true q b y l z h escape more = let e : n ≡ 1 = sym (some-is 1 n h) in rw e (rw q refl, omega arith)
+    step false q true y l z h escape more = let r = escape h in rw r.1 (rw (q, y) r.2.0, omega (arith, r.2.1))
+    step false q false y true z h escape more = let r = more h in rw r.1 (rw (q, y, z) r.2.0, omega (arith, r.2.1))
+    step false q false y false z h escape more = cc
 
 nil-is : (xs : List ℕ) → is_nil xs ≡ true → xs ≡ []
 nil-is [] h = refl
@@ -163,8 +163,8 @@ closes-closing true (c ∷ xs) ys h =
 closes-closing false (c ∷ xs) ys h =
     step (c == 34) refl (c == 92) refl (nat_le 32 c) refl h (closes-closing true xs ys) (closes-closing false xs ys)
   where
-  step : (q : Bool) → (c == 34) ≡ q → (b : Bool) → (c == 92) ≡ b → (l : Bool) → nat_le 32 c ≡ l → cond q (is_nil xs) (cond b (closes true xs) (l && closes false xs)) ≡ true → (closes true xs ≡ true → closing_len true (xs ++ ys) ≡ Some (length xs)) → (closes false xs ≡ true → closing_len false (xs ++ ys) ≡ Some (length xs)) → closing_len false ((c ∷ xs) ++ ys) ≡ Some (length (c ∷ xs))
-  step true q b y l z h escape more = let e : xs ≡ [] = nil-is xs h in rw (q, e) refl
-  step false q true y l z h escape more = rw (q, y, escape h) (ap (λ k. Some k) (omega arith))
-  step false q false y true z h escape more = rw (q, y, z, more h) (ap (λ k. Some k) (omega arith))
-  step false q false y false z h escape more = cc
+    step : (q : Bool) → (c == 34) ≡ q → (b : Bool) → (c == 92) ≡ b → (l : Bool) → nat_le 32 c ≡ l → cond q (is_nil xs) (cond b (closes true xs) (l && closes false xs)) ≡ true → (closes true xs ≡ true → closing_len true (xs ++ ys) ≡ Some (length xs)) → (closes false xs ≡ true → closing_len false (xs ++ ys) ≡ Some (length xs)) → closing_len false ((c ∷ xs) ++ ys) ≡ Some (length (c ∷ xs))
+    step true q b y l z h escape more = let e : xs ≡ [] = nil-is xs h in rw (q, e) refl
+    step false q true y l z h escape more = rw (q, y, escape h) (ap (λ k. Some k) (omega arith))
+    step false q false y true z h escape more = rw (q, y, z, more h) (ap (λ k. Some k) (omega arith))
+    step false q false y false z h escape more = cc
