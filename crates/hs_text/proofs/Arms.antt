@@ -1,5 +1,5 @@
-use Rattle.std.proofs.Common.{ℕ, ◌<◌, ◌≡◌, ◌↔◌, Bool, true, false, List, [], ◌∷◌, ◌++◌, Option, Some, None, refl, ap, sym, subst, ◌∙◌}
-use Rattle.std.specs.Bool.{OnTrue, OnFalse}
+use Rattle.std.proofs.Common.{ℕ, ◌<◌, ◌≡◌, ◌↔◌, Bool, true, false, List, [], ◌∷◌, ◌++◌, Some, None, sym}
+use Rattle.std.specs.Bool.{OnTrue}
 use Rattle.hs_tokens.specs.declared.token.Kind.{Kind}
 use Rattle.hs_tokens.specs.declared.token.Token.{Token}
 use Rattle.hs_tokens.specs.Kinds.{same}
@@ -12,8 +12,8 @@ use Rattle.hs_text.specs.declared.grammar.Symbol.TheVariants.{Skip, Keep, Sub, A
 use Rattle.hs_text.specs.declared.builder.Builder.{Builder}
 use Rattle.hs_text.specs.Terms.{matches}
 use Rattle.hs_text.specs.Building.{held_then, built}
-use Rattle.hs_text.specs.Machine.{Derives, done, skip, keep, act, by, right, empty_of, production_of, Fine, Taken, Refused, IsEnd, IsCutOff}
-use Rattle.hs_text.proofs.Steps.{skip-step, keep-step, act-step, sub-step, sub-back, sub-none, fine-step, measure, measure-act, measure-step, end-step, end-back, end-none, end-skip, end-keep, end-done, end-token, end_measure, end-measure-act, end-measure-step}
+use Rattle.hs_text.specs.Machine.{Derives, done, skip, keep, act, right, empty_of, production_of, Fine, Taken, Refused, IsEnd, IsCutOff}
+use Rattle.hs_text.proofs.Steps.{skip-step, keep-step, act-step, sub-step, sub-back, sub-none, fine-step, measure, measure-act, measure-step, end-step, end-back, end-none, end-done, end_measure, end-measure-act, end-measure-step}
 
 abbrev pub SameTexts : List ℕ → List Symbol → Builder → Token → List Symbol → Builder → Type 0
 SameTexts source start b t now c = (u : List Token) (f : Builder) → Derives source start (t ∷ u) b f ↔ Derives source now (t ∷ u) c f

@@ -1,4 +1,4 @@
-use Rattle.std.proofs.Common.{ℕ, zero, suc, Bool, true, false, ◌+◌, ◌<◌, ◌≤◌, ◌≡◌, ◌↔◌, ◌⊎◌, inl, inr, List, [], ◌∷◌, ◌++◌, Option, Some, None, refl, ap, sym, subst, ◌∙◌, append_assoc, arith}
+use Rattle.std.proofs.Common.{ℕ, zero, suc, Bool, true, false, ◌<◌, ◌≡◌, ◌⊎◌, inl, inr, List, [], ◌∷◌, ◌++◌, Option, Some, None, refl, ap, sym, subst, ◌∙◌, append_assoc, arith}
 use Rattle.std.proofs.lemmas.List.{append-nil}
 use Rattle.hs_tokens.specs.declared.token.Kind.{Kind}
 use Rattle.hs_tokens.specs.declared.token.Token.{Token}
@@ -15,7 +15,7 @@ use Rattle.hs_text.specs.declared.builder.Builder.{Builder}
 use Rattle.hs_text.specs.Grammar.{IsText}
 use Rattle.hs_text.specs.Terms.{matches}
 use Rattle.hs_text.specs.Building.{held_then, built, no_builder}
-use Rattle.hs_text.specs.Machine.{Derives, done, skip, keep, act, by, right, empty_of, production_of, Fine, Taken, Refused, IsEnd, IsCutOff}
+use Rattle.hs_text.specs.Machine.{Derives, done, skip, keep, act, right, empty_of, production_of, Fine, Taken, Refused, IsEnd, IsCutOff}
 use Rattle.hs_text.specs.Parsing.{Begins, IsFirstWrong, IsUnfinished}
 use Rattle.hs_text.proofs.Effects.{Fresh}
 use Rattle.hs_text.proofs.Writing.{written}
@@ -125,6 +125,7 @@ module _ (source : List ℕ) where
     go (inl s) = end (decide-end (suc (end_measure s.0)) s.0 s.1 (omega arith)) where
       of : (fs : List Definition) → IsText source ts fs → Derives source s.0 [] s.1 (record no_builder { definitions = fs })
       of fs t = (s.2.same_texts [] (record no_builder { definitions = fs })).0 (subst (λ x. Derives source (Sub part.Text ∷ []) x no_builder (record no_builder { definitions = fs })) (sym (append-nil ts)) (written source no_builder nothing-made t))
+
       end : Ended s.0 s.1 → ds ≡ es
       end (inl c) = ap (λ (b : Builder). b.definitions) ((c.1 (record no_builder { definitions = ds })).0 (of ds x) ∙ sym ((c.1 (record no_builder { definitions = es })).0 (of es y)))
       end (inr cut) = absurd (cut (record no_builder { definitions = ds }) (of ds x))

@@ -1,43 +1,33 @@
-use Rattle.std.proofs.Common.{ℕ, true, ◌≡◌, ◌⊎◌, inl, inr, List, [], ◌∷◌, ◌++◌, reverse, Option, Some, None, refl, ap, sym, subst, ◌∙◌, append_assoc}
+use Rattle.std.proofs.Common.{ℕ, ◌≡◌, List, [], ◌∷◌, ◌++◌, reverse, Option, refl, ap, sym, subst, ◌∙◌, append_assoc}
 use Rattle.std.proofs.lemmas.List.{append-nil}
 use Rattle.hs_expr.specs.declared.Piece.{Piece}
 use Rattle.hs_expr.specs.declared.Piece.TheVariants as piece
-use Rattle.hs_tokens.specs.declared.token.Kind.{Kind}
 use Rattle.hs_tokens.specs.declared.token.Kind.TheVariants as kind
 use Rattle.hs_tokens.specs.declared.token.Token.{Token}
-use Rattle.hs_tokens.specs.Kinds.{same}
 use Rattle.hs_text.specs.declared.grammar.Part.{Part}
 use Rattle.hs_text.specs.declared.grammar.Part.TheVariants as part
-use Rattle.hs_text.specs.declared.grammar.Production.{Production}
 use Rattle.hs_text.specs.declared.grammar.Production.TheVariants as production
-use Rattle.hs_text.specs.declared.grammar.Action.{Action}
 use Rattle.hs_text.specs.declared.grammar.Action.TheVariants as action
 use Rattle.hs_text.specs.declared.grammar.Symbol.{Symbol}
-use Rattle.hs_text.specs.declared.grammar.Symbol.TheVariants.{Skip, Keep, Sub, Act}
-use Rattle.hs_text.specs.declared.grammar.Term.{Term}
+use Rattle.hs_text.specs.declared.grammar.Symbol.TheVariants.{Skip, Sub, Act}
 use Rattle.hs_text.specs.declared.grammar.Term.TheVariants as term
 use Rattle.hs_text.specs.declared.syntax.Param.{Param}
 use Rattle.hs_text.specs.declared.syntax.Element.{Element}
 use Rattle.hs_text.specs.declared.syntax.Simple.{Simple}
-use Rattle.hs_text.specs.declared.syntax.Simple.TheVariants as simple
 use Rattle.hs_text.specs.declared.syntax.Item.{Item}
-use Rattle.hs_text.specs.declared.syntax.Item.TheVariants as item
 use Rattle.hs_text.specs.declared.syntax.Atom.{Atom}
 use Rattle.hs_text.specs.declared.syntax.Bind.{Bind}
-use Rattle.hs_text.specs.declared.syntax.Bind.TheVariants as bind
 use Rattle.hs_text.specs.declared.syntax.Call.{Call}
 use Rattle.hs_text.specs.declared.syntax.Body.{Body}
-use Rattle.hs_text.specs.declared.syntax.Body.TheVariants as body
 use Rattle.hs_text.specs.declared.syntax.Definition.{Definition}
-use Rattle.hs_text.specs.declared.syntax.Definition.TheVariants as definition
 use Rattle.hs_text.specs.declared.builder.Builder.{Builder}
-use Rattle.hs_text.specs.Terms.{Is, matches}
-use Rattle.hs_text.specs.Words.{name_of, mark_of, sign_of, listed_of, count_of, direction_of}
-use Rattle.hs_text.specs.Lists.{Many, none, more, Optional, absent, present, Behind, behind, Before, before, Separated, no_items, items}
+use Rattle.hs_text.specs.Terms.{Is}
+use Rattle.hs_text.specs.Words.{sign_of}
+use Rattle.hs_text.specs.Lists.{Many, none, more, Optional, absent, present, Behind, behind, before, Separated, no_items, items}
 use Rattle.hs_text.specs.Grammar.{Level, Expr, Or, Conj, And, Neg, Cmp, Comparison, Sum, Addition, Prod, Product, Fact, Expression, expr, no_or, or, conj, no_and, and, not, neg, cmp, no_comparison, comparison, sum, no_addition, addition, prod, no_product, product, literal, name, slot, parens, minus, IsParam, param, IsParams, params, IsElement, node, edge, IsSimple, marked, set, test, Elements, IsItem, simply, forbid, require, multi, IsAtom, value, negative, IsBind, give, take, IsCall, call, CallThen, IsBody, listed, conditional, loop, iterated, IsDefinition, rule, unit, IsText}
-use Rattle.hs_text.specs.Building.{held_then, built, finished, given, first, below_one}
-use Rattle.hs_text.specs.Machine.{Derives, done, skip, keep, act, by, part_of, right}
-use Rattle.hs_text.proofs.Effects.{Scratch, Fresh, Writes, SlotEffect, else_built, ElseEffect, ValueEffect, BoundEffect, Effect, rev-more, rev-all, forbid-same, require-same, multi-same, set-same, where-same, rule-same, unit-same, call-same, listed-same, loop-same, iterated-same, else-same}
+use Rattle.hs_text.specs.Building.{held_then, finished, given, first, below_one}
+use Rattle.hs_text.specs.Machine.{Derives, done, skip, keep, act, by}
+use Rattle.hs_text.proofs.Effects.{Scratch, Fresh, else_built, rev-more, forbid-same, require-same, multi-same, set-same, where-same, rule-same, unit-same, call-same, listed-same, else-same}
 
 -- WHAT IS READ IS DERIVED
 

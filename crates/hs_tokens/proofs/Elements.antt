@@ -1,9 +1,8 @@
-use Rattle.std.proofs.Common.{◌≡◌, ◌<◌, ◌≤◌, ◌+◌, ◌++◌, ◌==◌, ◌||◌, ◌&&◌, ◌⊎◌, inl, inr, ℕ, zero, suc, List, [], ◌∷◌, length, take, drop, min, Bool, true, false, Option, Some, None, unwrap_or, get_or, nat_eq, nat_le, cond, refl, sym, ap, subst, ◌∙◌, rules, pos, option_to_list, ◌^◌, lit<, arith, append_assoc, length-append}
+use Rattle.std.proofs.Common.{◌≡◌, ◌<◌, ◌≤◌, ◌+◌, ◌++◌, ◌==◌, ◌&&◌, ◌⊎◌, inl, inr, ℕ, suc, List, [], ◌∷◌, length, take, drop, min, Bool, true, false, Option, Some, None, get_or, nat_le, cond, refl, sym, ap, subst, ◌∙◌, pos, option_to_list, ◌^◌, lit<, arith, append_assoc, length-append}
 use Rattle.std.specs.List.{list_all, prefix_len}
 use Rattle.std.specs.Option.{is_some}
 use Rattle.std.proofs.lemmas.List.{take-append-drop, length-take-le, take_at, drop_at}
 use Rattle.std.proofs.lemmas.List.Sums.{prefix_len-le-length}
-use Rattle.std.proofs.lemmas.Grind.{common_steps}
 use Rattle.std.proofs.lemmas.Bool.Decides.{nat_tests, leb_tells}
 use Rattle.std.proofs.lemmas.Bool.{le-leb, leb-true}
 use Rattle.hs_tokens.specs.declared.token.Kind.{Kind}
@@ -12,10 +11,10 @@ use Rattle.hs_tokens.specs.declared.token.Token.{Token}
 use Rattle.hs_tokens.specs.declared.token.Place.{Place}
 use Rattle.hs_tokens.specs.declared.scan.Element.{Element}
 use Rattle.hs_tokens.specs.declared.scan.Element.TheVariants.{Skipped, Integer, Lexeme, Unknown}
-use Rattle.hs_tokens.specs.Tokens.{is_blank, is_letter, is_digit, is_word_part, is_word, is_integer, is_text, is_sign, is_lexeme, is_comment, is_in_line, ends_line, is_escaped, is_nil, closes, kind_in, kind_of, value_of, reserved, signs, after, decimal, token_at}
+use Rattle.hs_tokens.specs.Tokens.{is_blank, is_letter, is_digit, is_word_part, is_word, is_integer, is_text, is_sign, is_lexeme, is_comment, is_in_line, ends_line, closes, kind_in, kind_of, value_of, signs, after, decimal, token_at}
 use Rattle.hs_tokens.specs.Lexing.{IsLongest, IsStrange, Ending, Lexes, blank, comment, token, too_large, strange, TooLarge, Strange}
-use Rattle.hs_tokens.specs.Scanning.{closing_len, farther, word_rest_len, word_kind, text_element, sign_element, or_else, sign_at, slash_at, element_at, IsRead}
-use Rattle.hs_tokens.proofs.Longest.{is_plain, sign-short, letter-only, digit-only, quote-only, plain-only, not-plain, letter-lexeme, digit-lexeme, quote-lexeme, other-lexeme, run-is, run-longest, no-more, Closed, closing-closes, closes-closing, some-is}
+use Rattle.hs_tokens.specs.Scanning.{closing_len, word_rest_len, word_kind, text_element, sign_element, or_else, sign_at, slash_at, element_at, IsRead}
+use Rattle.hs_tokens.proofs.Longest.{is_plain, sign-short, letter-only, quote-only, not-plain, letter-lexeme, digit-lexeme, quote-lexeme, other-lexeme, run-is, run-longest, no-more, Closed, closing-closes, closes-closing, some-is}
 
 -- the characters as a front of this length and a rest
 pub record Cut (cs : List ℕ) (n : ℕ) (P : List ℕ → List ℕ → Type 0) : Type 0 where

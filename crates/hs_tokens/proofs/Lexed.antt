@@ -1,17 +1,15 @@
-use Rattle.std.proofs.Common.{◌≡◌, ◌<◌, ◌≤◌, ◌+◌, ◌-◌, ◌++◌, ◌==◌, ◌||◌, ◌&&◌, ◌⊎◌, ◌^◌, inl, inr, ℕ, zero, suc, List, [], ◌∷◌, length, take, drop, Bool, true, false, Option, Some, None, refl, sym, ap, subst, ◌∙◌, arith, cond, nat_le, append_assoc, length-drop}
+use Rattle.std.proofs.Common.{◌≡◌, ◌<◌, ◌≤◌, ◌++◌, ◌==◌, ◌&&◌, ◌⊎◌, ◌^◌, inl, inr, ℕ, zero, suc, List, [], ◌∷◌, length, take, drop, Bool, true, false, Option, None, refl, sym, ap, subst, ◌∙◌, arith, cond, nat_le, length-drop}
 use Rattle.std.proofs.lemmas.List.{append-nil}
 use Rattle.std.specs.List.{list_all}
 use Rattle.std.proofs.lemmas.Bool.Decides.{nat_tests, leb_tells}
-use Rattle.std.proofs.lemmas.Grind.{common_steps}
-use Rattle.hs_tokens.specs.declared.token.Kind.{Kind}
 use Rattle.hs_tokens.specs.declared.token.Token.{Token}
 use Rattle.hs_tokens.specs.declared.token.Place.{Place}
 use Rattle.hs_tokens.specs.declared.scan.Element.{Element}
 use Rattle.hs_tokens.specs.declared.scan.Element.TheVariants.{Skipped, Integer, Lexeme, Unknown}
-use Rattle.hs_tokens.specs.Tokens.{is_blank, is_letter, is_digit, is_lexeme, is_comment, is_in_line, ends_line, value_of, after, decimal, token_at}
-use Rattle.hs_tokens.specs.Lexing.{IsLongest, IsStrange, Ending, Whole, TooLarge, Strange, Lexes, nothing, blank, comment, token, too_large, strange}
+use Rattle.hs_tokens.specs.Tokens.{is_blank, is_letter, is_digit, is_lexeme, is_comment, is_in_line, ends_line, after, decimal}
+use Rattle.hs_tokens.specs.Lexing.{IsLongest, Ending, Whole, TooLarge, Strange, Lexes, nothing}
 use Rattle.hs_tokens.specs.Scanning.{IsRead, element_at}
-use Rattle.hs_tokens.proofs.Longest.{is_plain, not-plain, other-lexeme, no-more}
+use Rattle.hs_tokens.proofs.Longest.{is_plain, not-plain, other-lexeme}
 use Rattle.hs_tokens.proofs.Elements.{and-right, read-skipped, read-number, read-other, read-large, read-strange}
 
 -- EACH TEXT IS TOKENS UP TO ITS ENDING
@@ -34,9 +32,11 @@ unfolding Found
 at-first p c cs rest = step (element_at c cs) refl where
   next : (k : ℕ) (o : Option Token) → IsRead p (c ∷ cs) k o → Found p (c ∷ cs)
   next k o read = go-on p (c ∷ cs) k o read (rest k read.some read.within)
+
   sized : (k : ℕ) → element_at c cs ≡ Integer k → Sized (decimal (take k (c ∷ cs))) → Found p (c ∷ cs)
   sized k e (inl x) = ([], TooLarge p, read-large p c cs k e x.1)
   sized k e (inr x) = next k _ (read-number p c cs k (decimal (take k (c ∷ cs))) e refl x.1)
+
   step : (e : Element) → element_at c cs ≡ e → Found p (c ∷ cs)
   step Unknown e = ([], Strange p, read-strange p c cs e)
   step (Skipped k) e = next k None (read-skipped p c cs k e)
@@ -62,8 +62,10 @@ fronts (x ∷ f) r [] s w = inr (x ∷ f, refl, sym w)
 fronts (x ∷ f) r (y ∷ g) s w = step (fronts f r g s (tails x y (f ++ r) (g ++ s) w)) (heads x y (f ++ r) (g ++ s) w) where
   tails : (x y : ℕ) (xs ys : List ℕ) → x ∷ xs ≡ y ∷ ys → xs ≡ ys
   tails x y xs ys e = cc
+
   heads : (x y : ℕ) (xs ys : List ℕ) → x ∷ xs ≡ y ∷ ys → x ≡ y
   heads x y xs ys e = cc
+
   step : ((m : List ℕ) × (g ≡ f ++ m) × (r ≡ m ++ s)) ⊎ ((m : List ℕ) × (f ≡ g ++ m) × (s ≡ m ++ r)) → x ≡ y → ((m : List ℕ) × (y ∷ g ≡ x ∷ (f ++ m)) × (r ≡ m ++ s)) ⊎ ((m : List ℕ) × (x ∷ f ≡ y ∷ (g ++ m)) × (s ≡ m ++ r))
   step (inl a) e = inl (a.0, cc (a.1, e), a.2)
   step (inr a) e = inr (a.0, cc (a.1, e), a.2)

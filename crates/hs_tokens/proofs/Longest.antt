@@ -1,19 +1,15 @@
-use Rattle.std.proofs.Common.{◌≡◌, ◌<◌, ◌≤◌, ◌+◌, ◌++◌, ◌==◌, ◌||◌, ◌&&◌, ◌⊎◌, inl, inr, ℕ, zero, suc, List, [], ◌∷◌, length, take, drop, min, Bool, true, false, Option, Some, None, unwrap_or, nat_eq, nat_le, cond, refl, sym, ap, subst, ◌∙◌, rules, arith, append_assoc, length-append}
+use Rattle.std.proofs.Common.{◌≡◌, ◌<◌, ◌≤◌, ◌+◌, ◌++◌, ◌==◌, ◌||◌, ◌&&◌, ◌⊎◌, inl, inr, ℕ, zero, suc, List, [], ◌∷◌, length, take, drop, Bool, true, false, Option, Some, None, nat_eq, nat_le, cond, refl, sym, ap, ◌∙◌, arith, append_assoc, length-append}
 use Rattle.std.specs.List.{list_all, prefix_len}
 use Rattle.std.specs.Option.{is_some}
 use Rattle.std.proofs.lemmas.List.{take-append-drop, length-take-le}
-use Rattle.std.proofs.lemmas.List.Folds.{list_all-append}
 use Rattle.std.proofs.lemmas.List.Sums.{prefix_len-le-length}
 use Rattle.std.proofs.lemmas.Grind.{common_steps}
 use Rattle.std.proofs.lemmas.Bool.Decides.{nat_tests}
-use Rattle.std.proofs.lemmas.Bool.{le-leb, leb-true}
 use Rattle.std.specs.Cmp.Lexicographic.{pointwise}
 use Rattle.hs_expr.specs.Equality.{lists_exact, nat_exact}
 use Rattle.hs_tokens.specs.declared.token.Kind.{Kind}
-use Rattle.hs_tokens.specs.declared.token.Kind.TheVariants as kind
-use Rattle.hs_tokens.specs.Tokens.{is_blank, is_letter, is_digit, is_word_part, is_word, is_integer, is_text, is_sign, is_lexeme, is_comment, is_in_line, ends_line, is_escaped, is_nil, closes, kind_in, kind_of, value_of, reserved, signs}
-use Rattle.hs_tokens.specs.Lexing.{IsLongest, IsStrange}
-use Rattle.hs_tokens.specs.Scanning.{closing_len, farther, word_rest_len, word_kind}
+use Rattle.hs_tokens.specs.Tokens.{is_blank, is_letter, is_digit, is_word, is_integer, is_text, is_sign, is_lexeme, is_escaped, is_nil, closes, kind_in, signs}
+use Rattle.hs_tokens.specs.Scanning.{closing_len, farther}
 
 -- what each spelling of a table has, each found one has
 pub found : (p : List ℕ → Bool) (table : List (List ℕ × Kind)) → list_all (λ e. p e.0) table ≡ true → (cs : List ℕ) (k : Kind) → kind_in table cs ≡ Some k → p cs ≡ true

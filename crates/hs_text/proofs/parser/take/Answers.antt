@@ -1,5 +1,4 @@
-use Rattle.std.proofs.Common.{◌≡◌, ◌∷◌, [], refl, sym, ap, ◌∙◌}
-use Rattle.hs_text.specs.declared.grammar.Symbol.TheVariants.{Skip, Keep, Sub, Act}
+use Rattle.std.proofs.Common.{◌∷◌, sym, ap, ◌∙◌}
 use Rattle.hs_text.proofs.Arms.{skip-taken, keep-taken, act-less, act-fine, act-texts, sub-less, sub-fine, sub-texts, none-refused}
 use Rattle.hs_text.proofs.parser.take.Goals as goal
 

@@ -1,4 +1,4 @@
-use Rattle.std.proofs.Common.{◌≡◌, ◌<◌, ◌-◌, length, drop, sym, refl, arith, length-drop, take}
+use Rattle.std.proofs.Common.{◌-◌, length, drop, arith, take}
 use Rattle.std.proofs.lemmas.List.{take_rest}
 use Rattle.hs_tokens.proofs.Places.{read-on, read-whole}
 use Rattle.hs_tokens.proofs.scan.tokenize.Goals as goal
