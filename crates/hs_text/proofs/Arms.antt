@@ -1,5 +1,5 @@
-use Rattle.std.proofs.Common.{ℕ, ◌<◌, ◌≡◌, ◌↔◌, Bool, true, false, List, [], ◌∷◌, ◌++◌, Option, Some, None, refl, ap, sym, subst, ◌∙◌}
-use Rattle.std.specs.Bool.{OnTrue, OnFalse}
+use Rattle.std.proofs.Common.{ℕ, ◌<◌, ◌≡◌, ◌↔◌, Bool, true, false, List, [], ◌∷◌, ◌++◌, Some, None, sym}
+use Rattle.std.specs.Bool.{OnTrue}
 use Rattle.hs_tokens.specs.declared.token.Kind.{Kind}
 use Rattle.hs_tokens.specs.declared.token.Token.{Token}
 use Rattle.hs_tokens.specs.Kinds.{same}
@@ -12,8 +12,8 @@ use Rattle.hs_text.specs.declared.grammar.Symbol.TheVariants.{Skip, Keep, Sub, A
 use Rattle.hs_text.specs.declared.builder.Builder.{Builder}
 use Rattle.hs_text.specs.Terms.{matches}
 use Rattle.hs_text.specs.Building.{held_then, built}
-use Rattle.hs_text.specs.Machine.{Derives, done, skip, keep, act, by, right, empty_of, production_of, Fine, Taken, Refused, IsEnd, IsCutOff}
-use Rattle.hs_text.proofs.Steps.{skip-step, keep-step, act-step, sub-step, sub-back, sub-none, fine-step, measure, measure-act, measure-step, end-step, end-back, end-none, end-skip, end-keep, end-done, end-token, end_measure, end-measure-act, end-measure-step}
+use Rattle.hs_text.specs.Machine.{Derives, done, skip, keep, act, right, empty_of, production_of, Fine, Taken, Refused, IsEnd, IsCutOff}
+use Rattle.hs_text.proofs.Steps.{skip-step, keep-step, act-step, sub-step, sub-back, sub-none, fine-step, measure, measure-act, measure-step, end-step, end-back, end-none, end-done, end_measure, end-measure-act, end-measure-step}
 
 abbrev pub SameTexts : List ℕ → List Symbol → Builder → Token → List Symbol → Builder → Type 0
 SameTexts source start b t now c = (u : List Token) (f : Builder) → Derives source start (t ∷ u) b f ↔ Derives source now (t ∷ u) c f
@@ -53,8 +53,9 @@ module _ (source : List ℕ) (start : List Symbol) (b : Builder) (t : Token) (ol
 
   pub sub-texts : (n : Part) (mid new : List Symbol) (p : Production) → old ≡ Sub n ∷ mid → production_of n t.kind ≡ Some p → new ≡ right p ++ mid → SameTexts source start b t new c
   sub-texts n mid new p e g h u f = (
-      (λ d. rw h (sub-step n t p mid u c f (rw e at fine) g (rw e at ((texts u f).0 d)))),
-      (λ d. (texts u f).1 (rw e (sub-back n t p mid u c f g (rw h at d)))))
+    (λ d. rw h (sub-step n t p mid u c f (rw e at fine) g (rw e at ((texts u f).0 d)))),
+    (λ d. (texts u f).1 (rw e (sub-back n t p mid u c f g (rw h at d)))),
+  )
 
   pub none-refused : (n : Part) (mid : List Symbol) → old ≡ Sub n ∷ mid → production_of n t.kind ≡ None → Refused source start b t
   none-refused n mid e g u f d = sub-none n t mid u c f g (rw e at ((texts u f).0 d))
@@ -71,8 +72,9 @@ module _ (source : List ℕ) (start : List Symbol) (b : Builder) (old : List Sym
 
   pub end-sub : (n : Part) (mid new : List Symbol) (p : Production) → old ≡ Sub n ∷ mid → empty_of n ≡ Some p → new ≡ right p ++ mid → SameEnds source start b new c
   end-sub n mid new p e g h f = (
-      (λ d. rw h (end-step n p mid c f g (rw e at ((ends f).0 d)))),
-      (λ d. (ends f).1 (rw e (end-back n p mid c f g (rw h at d)))))
+    (λ d. rw h (end-step n p mid c f g (rw e at ((ends f).0 d)))),
+    (λ d. (ends f).1 (rw e (end-back n p mid c f g (rw h at d)))),
+  )
 
   pub end-cut-off : (n : Part) (mid : List Symbol) → old ≡ Sub n ∷ mid → empty_of n ≡ None → IsCutOff source start b
   end-cut-off n mid e g f d = end-none n mid c f g (rw e at ((ends f).0 d))

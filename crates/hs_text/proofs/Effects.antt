@@ -1,7 +1,6 @@
-use Rattle.std.proofs.Common.{ℕ, ◌≡◌, ◌⊎◌, inl, inr, List, [], ◌∷◌, ◌++◌, reverse, Option, Some, None, refl, ap, sym, subst, ◌∙◌, append_assoc}
+use Rattle.std.proofs.Common.{ℕ, ◌≡◌, ◌⊎◌, List, [], ◌∷◌, ◌++◌, reverse, Option, Some, None, refl, ap, sym, ◌∙◌, append_assoc}
 use Rattle.std.proofs.lemmas.List.{reverse-append, reverse-reverse, append-nil}
 use Rattle.hs_expr.specs.declared.Piece.{Piece}
-use Rattle.hs_expr.specs.declared.Piece.TheVariants as piece
 use Rattle.hs_tokens.specs.declared.token.Kind.TheVariants as kind
 use Rattle.hs_tokens.specs.declared.token.Token.{Token}
 use Rattle.hs_text.specs.declared.grammar.Part.{Part}
@@ -23,8 +22,8 @@ use Rattle.hs_text.specs.declared.syntax.Definition.{Definition}
 use Rattle.hs_text.specs.declared.syntax.Definition.TheVariants as definition
 use Rattle.hs_text.specs.declared.builder.Builder.{Builder}
 use Rattle.hs_text.specs.Terms.{Is}
-use Rattle.hs_text.specs.Words.{name_of, mark_of, listed_of, count_of}
-use Rattle.hs_text.specs.Lists.{Many, Optional, Behind, Before, Separated}
+use Rattle.hs_text.specs.Words.{name_of, listed_of, count_of}
+use Rattle.hs_text.specs.Lists.{Many, Optional, Behind, Separated}
 use Rattle.hs_text.specs.Grammar.{Level, Expr, Or, Conj, And, Neg, Cmp, Comparison, Sum, Addition, Prod, Product, Fact, Expression, IsParam, IsParams, IsElement, IsSimple, Elements, IsItem, IsAtom, IsBind, IsCall, CallThen, IsBody, IsDefinition, IsText}
 use Rattle.hs_text.specs.Building.{held_then, built, finished, given, first, below_one}
 

@@ -7,3 +7,4 @@ pub mod Reading
 pub mod Writing
 pub mod Produced
 pub mod Whole
+pub mod Judged

@@ -1,9 +1,8 @@
-use Rattle.std.proofs.Common.{ℕ, true, ◌≡◌, ◌⊎◌, inl, inr, List, [], ◌∷◌, ◌++◌, reverse, Option, Some, None, refl, ap, sym, subst, ◌∙◌, append_assoc}
+use Rattle.std.proofs.Common.{ℕ, true, ◌≡◌, inl, inr, List, [], ◌∷◌, ◌++◌, reverse, Some, None, refl, ap, sym, subst, ◌∙◌, append_assoc}
 use Rattle.std.proofs.lemmas.List.{append-nil}
 use Rattle.hs_expr.specs.declared.Piece.{Piece}
 use Rattle.hs_expr.specs.declared.Piece.TheVariants as piece
 use Rattle.hs_tokens.specs.declared.token.Kind.{Kind}
-use Rattle.hs_tokens.specs.declared.token.Kind.TheVariants as kind
 use Rattle.hs_tokens.specs.declared.token.Token.{Token}
 use Rattle.hs_tokens.specs.Kinds.{same}
 use Rattle.hs_text.specs.declared.grammar.Part.{Part}
@@ -15,29 +14,23 @@ use Rattle.hs_text.specs.declared.grammar.Action.TheVariants as action
 use Rattle.hs_text.specs.declared.grammar.Symbol.{Symbol}
 use Rattle.hs_text.specs.declared.grammar.Symbol.TheVariants.{Skip, Keep, Sub, Act}
 use Rattle.hs_text.specs.declared.grammar.Term.{Term}
-use Rattle.hs_text.specs.declared.grammar.Term.TheVariants as term
-use Rattle.hs_text.specs.declared.syntax.Param.{Param}
-use Rattle.hs_text.specs.declared.syntax.Element.{Element}
 use Rattle.hs_text.specs.declared.syntax.Simple.{Simple}
 use Rattle.hs_text.specs.declared.syntax.Simple.TheVariants as simple
 use Rattle.hs_text.specs.declared.syntax.Item.{Item}
 use Rattle.hs_text.specs.declared.syntax.Item.TheVariants as item
-use Rattle.hs_text.specs.declared.syntax.Atom.{Atom}
-use Rattle.hs_text.specs.declared.syntax.Bind.{Bind}
 use Rattle.hs_text.specs.declared.syntax.Bind.TheVariants as bind
 use Rattle.hs_text.specs.declared.syntax.Call.{Call}
-use Rattle.hs_text.specs.declared.syntax.Body.{Body}
 use Rattle.hs_text.specs.declared.syntax.Body.TheVariants as body
 use Rattle.hs_text.specs.declared.syntax.Definition.{Definition}
 use Rattle.hs_text.specs.declared.syntax.Definition.TheVariants as definition
 use Rattle.hs_text.specs.declared.builder.Builder.{Builder}
-use Rattle.hs_text.specs.Terms.{Is, matches}
-use Rattle.hs_text.specs.Words.{name_of, mark_of, sign_of, listed_of, count_of, direction_of}
-use Rattle.hs_text.specs.Lists.{Many, none, more, Optional, absent, present, Behind, behind, Before, before, Separated, no_items, items}
-use Rattle.hs_text.specs.Grammar.{Level, Expr, Or, Conj, And, Neg, Cmp, Comparison, Sum, Addition, Prod, Product, Fact, Expression, expr, no_or, or, conj, no_and, and, not, neg, cmp, no_comparison, comparison, sum, no_addition, addition, prod, no_product, product, literal, name, slot, parens, minus, IsParam, param, IsParams, params, IsElement, node, edge, IsSimple, marked, set, test, Elements, IsItem, simply, forbid, require, multi, IsAtom, value, negative, IsBind, give, take, IsCall, call, CallThen, IsBody, listed, conditional, loop, iterated, IsDefinition, rule, unit, IsText}
-use Rattle.hs_text.specs.Building.{held_then, built, finished, given, first, below_one}
+use Rattle.hs_text.specs.Terms.{matches}
+use Rattle.hs_text.specs.Words.{name_of, mark_of, sign_of, listed_of, count_of}
+use Rattle.hs_text.specs.Lists.{Many, none, more, absent, present, behind, before, no_items, items}
+use Rattle.hs_text.specs.Grammar.{Level, Expr, Or, Conj, And, Neg, Cmp, Comparison, Sum, Addition, Prod, Product, Fact, Expression, expr, no_or, or, conj, no_and, and, not, neg, cmp, no_comparison, comparison, sum, no_addition, addition, prod, no_product, product, literal, name, slot, parens, minus, param, params, node, edge, IsSimple, marked, set, test, IsItem, simply, forbid, require, multi, value, negative, IsBind, give, take, IsCall, call, CallThen, IsBody, listed, conditional, loop, iterated, IsDefinition, rule, unit, IsText}
+use Rattle.hs_text.specs.Building.{held_then, built}
 use Rattle.hs_text.specs.Machine.{Derives, done, skip, keep, act, by, part_of, right}
-use Rattle.hs_text.proofs.Effects.{Scratch, Fresh, Writes, SlotEffect, else_built, ElseEffect, ValueEffect, BoundEffect, Effect, rev-more, rev-all, forbid-same, require-same, multi-same, set-same, where-same, rule-same, unit-same, call-same, listed-same, loop-same, iterated-same, else-same}
+use Rattle.hs_text.proofs.Effects.{Fresh, Writes, SlotEffect, ElseEffect, BoundEffect, Effect, rev-more, forbid-same, require-same, multi-same, set-same, where-same, rule-same, unit-same, call-same, listed-same, else-same}
 
 -- WHAT IS DERIVED IS READ
 
@@ -86,86 +79,88 @@ module _ (source : List ℕ) where
   production-split : (p : Production) (ss : List Symbol) (ts : List Token) (b f : Builder) → Split source (right p ++ ss) ts b f → Split source (Sub (part_of p) ∷ ss) ts b f
   production-split production.TextMore ss _ b f (s-sub us _ m e (s-sub vs ws n g r)) =
       joined part.Text ss b f n (us ++ vs) ws _ (λ fresh.
-        let d : (d : Definition) × IsDefinition source us d × (m ≡ record b { definitions = b.definitions ++ d ∷ [] }) = e fresh in
-        let g' : Effect source part.Text vs (record b { definitions = b.definitions ++ d.0 ∷ [] }) n = subst (λ x. Effect source part.Text vs x n) d.2 g in
-        let q = g' fresh in
-        (d.0 ∷ q.0, more d.1 q.1, q.2 ∙ ap (λ x. record b { definitions = x }) (append_assoc b.definitions (d.0 ∷ []) q.0))) r (append_assoc us vs ws)
+      let d : (d : Definition) × IsDefinition source us d × (m ≡ record b { definitions = b.definitions ++ d ∷ [] }) = e fresh in
+      let g' : Effect source part.Text vs (record b { definitions = b.definitions ++ d.0 ∷ [] }) n = subst (λ x. Effect source part.Text vs x n) d.2 g in
+      let q = g' fresh in
+      (d.0 ∷ q.0, more d.1 q.1, q.2 ∙ ap (λ x. record b { definitions = x }) (append_assoc b.definitions (d.0 ∷ []) q.0))) r (append_assoc us vs ws)
   production-split production.TextEnd ss ts b f r = joined part.Text ss b f b [] ts _ (λ fresh. ([], none, ap (λ x. record b { definitions = x }) (sym (append-nil b.definitions)))) r refl
   production-split production.RuleDefinition ss _ b f (s-skip k i (s-keep n j (s-sub us _ m e (s-skip o x (s-sub vs _ l g (s-skip c y (s-act {ts} r))))))) =
       joined part.Definition ss b f (built source action.Rule l) (k ∷ n ∷ (us ++ (o ∷ (vs ++ c ∷ [])))) ts _ (λ fresh.
-        let g' : Effect source part.Items vs (record (held_then n b) { params = b.params ++ e.0 }) l = subst (λ z. Effect source part.Items vs z l) e.2 g in
-        let q = g' (fresh.2, fresh.3, fresh.4) in
-        (definition.Rule (record { name = name_of source n; params = e.0; items = q.0 }), rule k n o c i j e.1 x q.1 y,
-          ap (built source action.Rule) q.2 ∙ rule-same source b n e.0 q.0 fresh.0 fresh.1)) r
+      let g' : Effect source part.Items vs (record (held_then n b) { params = b.params ++ e.0 }) l = subst (λ z. Effect source part.Items vs z l) e.2 g in
+      let q = g' (fresh.2, fresh.3, fresh.4) in (
+        definition.Rule (record { name = name_of source n; params = e.0; items = q.0 }),
+        rule k n o c i j e.1 x q.1 y,
+        ap (built source action.Rule) q.2 ∙ rule-same source b n e.0 q.0 fresh.0 fresh.1,
+      )) r
       (ap (λ z. k ∷ n ∷ z) (append_assoc us (o ∷ (vs ++ c ∷ [])) ts ∙ ap (λ z. us ++ (o ∷ z)) (append_assoc vs (c ∷ []) ts)))
   production-split production.UnitDefinition ss _ b f (s-skip k i (s-keep n j (s-sub us _ m e (s-sub vs ws l g r)))) =
       joined part.Definition ss b f l (k ∷ n ∷ (us ++ vs)) ws _ (λ fresh.
-        let g' : Effect source part.Body vs (record (held_then n b) { params = b.params ++ e.0 }) l = subst (λ z. Effect source part.Body vs z l) e.2 g in
-        let q = g' fresh.5 fresh.6 in
-        (definition.Unit (record { name = name_of source n; params = e.0; body = q.0 }), unit k n i j e.1 q.1, q.2 ∙ unit-same source b n e.0 q.0 fresh.0)) r
+      let g' : Effect source part.Body vs (record (held_then n b) { params = b.params ++ e.0 }) l = subst (λ z. Effect source part.Body vs z l) e.2 g in
+      let q = g' fresh.5 fresh.6 in
+      (definition.Unit (record { name = name_of source n; params = e.0; body = q.0 }), unit k n i j e.1 q.1, q.2 ∙ unit-same source b n e.0 q.0 fresh.0)) r
       (ap (λ z. k ∷ n ∷ z) (append_assoc us vs ws))
   production-split production.Params ss _ b f (s-skip o i (s-sub us _ m e (s-skip {ts} c j r))) =
       joined part.Params ss b f m (o ∷ (us ++ c ∷ [])) ts _ (e.0, params o c i e.1 j, e.2) r (ap (λ z. o ∷ z) (append_assoc us (c ∷ []) ts))
   production-split production.ParamFirst ss _ b f (s-sub us _ m e (s-sub vs ws n g r)) =
       joined part.ParamList ss b f n (us ++ vs) ws _ (
-        let q : Effect source part.ParamsTail vs (record b { params = b.params ++ e.0 ∷ [] }) n = subst (λ x. Effect source part.ParamsTail vs x n) e.2 g in
-        (e.0 ∷ q.0, items e.1 q.1, q.2 ∙ ap (λ x. record b { params = x }) (append_assoc b.params (e.0 ∷ []) q.0))) r (append_assoc us vs ws)
+      let q : Effect source part.ParamsTail vs (record b { params = b.params ++ e.0 ∷ [] }) n = subst (λ x. Effect source part.ParamsTail vs x n) e.2 g in
+      (e.0 ∷ q.0, items e.1 q.1, q.2 ∙ ap (λ x. record b { params = x }) (append_assoc b.params (e.0 ∷ []) q.0))) r (append_assoc us vs ws)
   production-split production.ParamNone ss ts b f r = joined part.ParamList ss b f b [] ts _ ([], no_items, ap (λ x. record b { params = x }) (sym (append-nil b.params))) r refl
   production-split production.ParamNext ss _ b f (s-skip c i (s-sub us _ m e (s-sub vs ws n g r))) =
       joined part.ParamsTail ss b f n (c ∷ (us ++ vs)) ws _ (
-        let q : Effect source part.ParamsTail vs (record b { params = b.params ++ e.0 ∷ [] }) n = subst (λ x. Effect source part.ParamsTail vs x n) e.2 g in
-        (e.0 ∷ q.0, more (behind c i e.1) q.1, q.2 ∙ ap (λ x. record b { params = x }) (append_assoc b.params (e.0 ∷ []) q.0))) r (ap (λ z. c ∷ z) (append_assoc us vs ws))
+      let q : Effect source part.ParamsTail vs (record b { params = b.params ++ e.0 ∷ [] }) n = subst (λ x. Effect source part.ParamsTail vs x n) e.2 g in
+      (e.0 ∷ q.0, more (behind c i e.1) q.1, q.2 ∙ ap (λ x. record b { params = x }) (append_assoc b.params (e.0 ∷ []) q.0))) r (ap (λ z. c ∷ z) (append_assoc us vs ws))
   production-split production.ParamLast ss ts b f r = joined part.ParamsTail ss b f b [] ts _ ([], none, ap (λ x. record b { params = x }) (sym (append-nil b.params))) r refl
   production-split production.Param ss _ b f (s-keep d i (s-keep n j (s-skip c x (s-keep w y (s-act {ts} r))))) =
       joined part.Param ss b f _ (d ∷ n ∷ c ∷ w ∷ []) ts _ (_, param d n c w i j x y, refl) r refl
   production-split production.ItemMore ss _ b f (s-sub us _ m e (s-sub vs ws n g r)) =
       joined part.Items ss b f n (us ++ vs) ws _ (λ scratch.
-        let d : (i : Item) × IsItem source us i × (m ≡ record b { items = b.items ++ i ∷ [] }) = e scratch in
-        let g' : Effect source part.Items vs (record b { items = b.items ++ d.0 ∷ [] }) n = subst (λ x. Effect source part.Items vs x n) d.2 g in
-        let q = g' scratch in
-        (d.0 ∷ q.0, more d.1 q.1, q.2 ∙ ap (λ x. record b { items = x }) (append_assoc b.items (d.0 ∷ []) q.0))) r (append_assoc us vs ws)
+      let d : (i : Item) × IsItem source us i × (m ≡ record b { items = b.items ++ i ∷ [] }) = e scratch in
+      let g' : Effect source part.Items vs (record b { items = b.items ++ d.0 ∷ [] }) n = subst (λ x. Effect source part.Items vs x n) d.2 g in
+      let q = g' scratch in
+      (d.0 ∷ q.0, more d.1 q.1, q.2 ∙ ap (λ x. record b { items = x }) (append_assoc b.items (d.0 ∷ []) q.0))) r (append_assoc us vs ws)
   production-split production.ItemEnd ss ts b f r = joined part.Items ss b f b [] ts _ (λ scratch. ([], none, ap (λ x. record b { items = x }) (sym (append-nil b.items)))) r refl
   production-split production.ItemSimple ss _ b f (s-sub us vs m e (s-act r)) =
       joined part.Item ss b f (built source action.Plain m) us vs _ (λ scratch.
-        let d : (s : Simple) × IsSimple source us s × (m ≡ record b { simples = s ∷ b.simples }) = e scratch.2 in
-        (item.Simple d.0, simply d.1, ap (built source action.Plain) d.2)) r refl
+      let d : (s : Simple) × IsSimple source us s × (m ≡ record b { simples = s ∷ b.simples }) = e scratch.2 in
+      (item.Simple d.0, simply d.1, ap (built source action.Plain) d.2)) r refl
   production-split production.ItemForbid ss _ b f (s-skip k i (s-skip o j (s-sub us _ m e (s-skip c x (s-act {ts} r))))) =
       joined part.Item ss b f (built source action.Forbid m) (k ∷ o ∷ (us ++ c ∷ [])) ts _ (λ scratch.
-        (item.Forbid e.0, forbid k o c i j e.1 x, ap (built source action.Forbid) e.2 ∙ forbid-same source b e.0 scratch.0)) r
+      (item.Forbid e.0, forbid k o c i j e.1 x, ap (built source action.Forbid) e.2 ∙ forbid-same source b e.0 scratch.0)) r
       (ap (λ z. k ∷ o ∷ z) (append_assoc us (c ∷ []) ts))
   production-split production.ItemRequire ss _ b f (s-skip k i (s-skip o j (s-sub us _ m e (s-skip c x (s-act {ts} r))))) =
       joined part.Item ss b f (built source action.Require m) (k ∷ o ∷ (us ++ c ∷ [])) ts _ (λ scratch.
-        (item.Require e.0, require k o c i j e.1 x, ap (built source action.Require) e.2 ∙ require-same source b e.0 scratch.0)) r
+      (item.Require e.0, require k o c i j e.1 x, ap (built source action.Require) e.2 ∙ require-same source b e.0 scratch.0)) r
       (ap (λ z. k ∷ o ∷ z) (append_assoc us (c ∷ []) ts))
   production-split production.ItemMulti ss _ b f (s-skip k i (s-skip o j (s-sub us _ m e (s-skip c x (s-act {ts} r))))) =
       joined part.Item ss b f (built source action.Multi m) (k ∷ o ∷ (us ++ c ∷ [])) ts _ (λ scratch.
-        let d : (l : List Simple) × Many (IsSimple source) us l × (m ≡ record b { simples = reverse l ++ b.simples }) = e scratch.2 in
-        (item.Multi d.0, multi k o c i j d.1 x, ap (built source action.Multi) d.2 ∙ multi-same source b d.0 scratch.1)) r
+      let d : (l : List Simple) × Many (IsSimple source) us l × (m ≡ record b { simples = reverse l ++ b.simples }) = e scratch.2 in
+      (item.Multi d.0, multi k o c i j d.1 x, ap (built source action.Multi) d.2 ∙ multi-same source b d.0 scratch.1)) r
       (ap (λ z. k ∷ o ∷ z) (append_assoc us (c ∷ []) ts))
   production-split production.ElementMore ss _ b f (s-sub us _ m e (s-skip c i (s-sub vs ws n g r))) =
       joined part.Elements ss b f n ((us ++ c ∷ []) ++ vs) ws _ (
-        let q : Effect source part.Elements vs (record b { elements = e.0 ∷ b.elements }) n = subst (λ x. Effect source part.Elements vs x n) e.2 g in
-        (e.0 ∷ q.0, more (before c e.1 i) q.1, q.2 ∙ ap (λ x. record b { elements = x }) (rev-more e.0 q.0 b.elements))) r
+      let q : Effect source part.Elements vs (record b { elements = e.0 ∷ b.elements }) n = subst (λ x. Effect source part.Elements vs x n) e.2 g in
+      (e.0 ∷ q.0, more (before c e.1 i) q.1, q.2 ∙ ap (λ x. record b { elements = x }) (rev-more e.0 q.0 b.elements))) r
       (append_assoc (us ++ c ∷ []) vs ws ∙ append_assoc us (c ∷ []) (vs ++ ws))
   production-split production.ElementEnd ss ts b f r = joined part.Elements ss b f b [] ts _ ([], none, refl) r refl
   production-split production.SimpleMore ss _ b f (s-sub us _ m e (s-sub vs ws n g r)) =
       joined part.Simples ss b f n (us ++ vs) ws _ (λ clean.
-        let d : (s : Simple) × IsSimple source us s × (m ≡ record b { simples = s ∷ b.simples }) = e clean in
-        let g' : Effect source part.Simples vs (record b { simples = d.0 ∷ b.simples }) n = subst (λ x. Effect source part.Simples vs x n) d.2 g in
-        let q = g' clean in
-        (d.0 ∷ q.0, more d.1 q.1, q.2 ∙ ap (λ x. record b { simples = x }) (rev-more d.0 q.0 b.simples))) r (append_assoc us vs ws)
+      let d : (s : Simple) × IsSimple source us s × (m ≡ record b { simples = s ∷ b.simples }) = e clean in
+      let g' : Effect source part.Simples vs (record b { simples = d.0 ∷ b.simples }) n = subst (λ x. Effect source part.Simples vs x n) d.2 g in
+      let q = g' clean in
+      (d.0 ∷ q.0, more d.1 q.1, q.2 ∙ ap (λ x. record b { simples = x }) (rev-more d.0 q.0 b.simples))) r (append_assoc us vs ws)
   production-split production.SimpleEnd ss ts b f r = joined part.Simples ss b f b [] ts _ (λ clean. ([], none, refl)) r refl
   production-split production.SimpleElement ss _ b f (s-keep k i (s-sub us _ m e (s-skip c j (s-act {ts} r)))) =
       joined part.Simple ss b f (built source action.Marked m) (k ∷ (us ++ c ∷ [])) ts _ (λ clean.
-        (simple.Marked (mark_of k.kind) e.0, marked k c i e.1 j, ap (built source action.Marked) e.2)) r
+      (simple.Marked (mark_of k.kind) e.0, marked k c i e.1 j, ap (built source action.Marked) e.2)) r
       (ap (λ z. k ∷ z) (append_assoc us (c ∷ []) ts))
   production-split production.SimpleSet ss _ b f (s-skip k i (s-keep n j (s-skip d x (s-keep w y (s-skip a z (s-sub us _ m e (s-skip c l (s-act {ts} r)))))))) =
       joined part.Simple ss b f (built source action.Set m) (k ∷ n ∷ d ∷ w ∷ a ∷ (us ++ c ∷ [])) ts _ (λ clean.
-        (simple.Set (name_of source n) (name_of source w) (record { pieces = e.0 }), set k n d w a c i j x y z e.1 l, ap (built source action.Set) e.2 ∙ set-same source b n w e.0 clean)) r
+      (simple.Set (name_of source n) (name_of source w) (record { pieces = e.0 }), set k n d w a c i j x y z e.1 l, ap (built source action.Set) e.2 ∙ set-same source b n w e.0 clean)) r
       (ap (λ q. k ∷ n ∷ d ∷ w ∷ a ∷ q) (append_assoc us (c ∷ []) ts))
   production-split production.SimpleWhere ss _ b f (s-keep k i (s-sub us _ m e (s-skip c j (s-act {ts} r)))) =
       joined part.Simple ss b f (built source action.Where m) (k ∷ (us ++ c ∷ [])) ts _ (λ clean.
-        (simple.Where k.span (record { pieces = e.0 }), test k c i e.1 j, ap (built source action.Where) e.2 ∙ where-same source b k e.0 clean)) r
+      (simple.Where k.span (record { pieces = e.0 }), test k c i e.1 j, ap (built source action.Where) e.2 ∙ where-same source b k e.0 clean)) r
       (ap (λ z. k ∷ z) (append_assoc us (c ∷ []) ts))
   production-split production.ElementNode ss _ b f (s-skip k i (s-keep n j (s-skip c x (s-keep w y (s-act {ts} r))))) =
       joined part.Element ss b f _ (k ∷ n ∷ c ∷ w ∷ []) ts _ (_, node k n c w i j x y, refl) r refl
@@ -199,59 +194,60 @@ module _ (source : List ℕ) where
   production-split production.SlotNone ss ts b f (s-act r) = joined part.Slot ss b f _ [] ts _ (inl (refl, refl)) r refl
   production-split production.BodyListed ss _ b f (s-keep k i (s-skip o j (s-sub us _ m e (s-skip c x (s-act {ts} r))))) =
       joined part.Body ss b f (built source action.Listed m) (k ∷ o ∷ (us ++ c ∷ [])) ts _ (λ no_calls no_binds.
-        let d : (cs : List Call) × Many (CallThen source) us cs × (m ≡ record (held_then k b) { calls = reverse cs ++ b.calls }) = e no_binds in
-        (listed_of k.kind d.0, listed k o c i j d.1 x, ap (built source action.Listed) d.2 ∙ listed-same source b k d.0 no_calls)) r
+      let d : (cs : List Call) × Many (CallThen source) us cs × (m ≡ record (held_then k b) { calls = reverse cs ++ b.calls }) = e no_binds in
+      (listed_of k.kind d.0, listed k o c i j d.1 x, ap (built source action.Listed) d.2 ∙ listed-same source b k d.0 no_calls)) r
       (ap (λ z. k ∷ o ∷ z) (append_assoc us (c ∷ []) ts))
   production-split production.BodyConditional ss _ b f (s-skip k i (s-skip o j (s-skip q x (s-sub us _ m e (s-skip p y (s-skip h z (s-sub vs _ l g (s-skip s a (s-sub ws ts n d r))))))))) =
       joined part.Body ss b f n (k ∷ o ∷ q ∷ ((us ++ p ∷ []) ++ (h ∷ ((vs ++ s ∷ []) ++ ws)))) ts _ (λ no_calls no_binds.
-        let e1 : (c : Call) × IsCall source us c × (m ≡ record b { calls = c ∷ b.calls }) = e no_binds in
-        let g1 : Effect source part.Call vs (record b { calls = e1.0 ∷ b.calls }) l = subst (λ v. Effect source part.Call vs v l) e1.2 g in
-        let g2 : (c : Call) × IsCall source vs c × (l ≡ record b { calls = c ∷ e1.0 ∷ b.calls }) = g1 no_binds in
-        let d1 : Effect source part.Else ws (record b { calls = g2.0 ∷ e1.0 ∷ b.calls }) n = subst (λ v. Effect source part.Else ws v n) g2.2 d in
-        let d2 : ElseEffect source ws (record b { calls = g2.0 ∷ e1.0 ∷ b.calls }) n = d1 no_binds in
-        (body.Conditional e1.0 g2.0 d2.0,
-          subst (λ v. IsBody source (k ∷ o ∷ q ∷ ((us ++ p ∷ []) ++ (h ∷ ((vs ++ s ∷ []) ++ v)))) (body.Conditional e1.0 g2.0 d2.0)) (sym d2.3)
+      let e1 : (c : Call) × IsCall source us c × (m ≡ record b { calls = c ∷ b.calls }) = e no_binds in
+      let g1 : Effect source part.Call vs (record b { calls = e1.0 ∷ b.calls }) l = subst (λ v. Effect source part.Call vs v l) e1.2 g in
+      let g2 : (c : Call) × IsCall source vs c × (l ≡ record b { calls = c ∷ e1.0 ∷ b.calls }) = g1 no_binds in
+      let d1 : Effect source part.Else ws (record b { calls = g2.0 ∷ e1.0 ∷ b.calls }) n = subst (λ v. Effect source part.Else ws v n) g2.2 d in
+      let d2 : ElseEffect source ws (record b { calls = g2.0 ∷ e1.0 ∷ b.calls }) n = d1 no_binds in (
+        body.Conditional e1.0 g2.0 d2.0,
+        subst (λ v. IsBody source (k ∷ o ∷ q ∷ ((us ++ p ∷ []) ++ (h ∷ ((vs ++ s ∷ []) ++ v)))) (body.Conditional e1.0 g2.0 d2.0)) (sym d2.3)
             (conditional k o q h d2.2 i j x (before p e1.1 y) z (before s g2.1 a) d2.4 d2.5),
-          d2.6 ∙ else-same source b e1.0 g2.0 d2.0)) r
+        d2.6 ∙ else-same source b e1.0 g2.0 d2.0,
+      )) r
       (ap (λ v. k ∷ o ∷ q ∷ v) (append_assoc (us ++ p ∷ []) (h ∷ ((vs ++ s ∷ []) ++ ws)) ts ∙ append_assoc us (p ∷ []) (h ∷ (((vs ++ s ∷ []) ++ ws) ++ ts))
-        ∙ ap (λ v. us ++ (p ∷ h ∷ v)) (append_assoc (vs ++ s ∷ []) ws ts ∙ append_assoc vs (s ∷ []) (ws ++ ts))))
+      ∙ ap (λ v. us ++ (p ∷ h ∷ v)) (append_assoc (vs ++ s ∷ []) ws ts ∙ append_assoc vs (s ∷ []) (ws ++ ts))))
   production-split production.BodyLoop ss _ b f (s-skip k i (s-skip o j (s-sub us _ m e (s-skip p y (s-skip c x (s-act {ts} r)))))) =
       joined part.Body ss b f (built source action.Loop m) (k ∷ o ∷ ((us ++ p ∷ []) ++ c ∷ [])) ts _ (λ no_calls no_binds.
-        let d : (a : Call) × IsCall source us a × (m ≡ record b { calls = a ∷ b.calls }) = e no_binds in
-        (body.Loop d.0, loop k o c i j (before p d.1 y) x, ap (built source action.Loop) d.2)) r
+      let d : (a : Call) × IsCall source us a × (m ≡ record b { calls = a ∷ b.calls }) = e no_binds in
+      (body.Loop d.0, loop k o c i j (before p d.1 y) x, ap (built source action.Loop) d.2)) r
       (ap (λ z. k ∷ o ∷ z) (append_assoc (us ++ p ∷ []) (c ∷ []) ts ∙ append_assoc us (p ∷ []) (c ∷ ts)))
   production-split production.BodyIterated ss _ b f (s-skip k i (s-keep n l (s-skip o j (s-sub us _ m e (s-skip p y (s-skip c x (s-act {ts} r))))))) =
       joined part.Body ss b f (built source action.Iterated m) (k ∷ n ∷ o ∷ ((us ++ p ∷ []) ++ c ∷ [])) ts _ (λ no_calls no_binds.
-        let d : (a : Call) × IsCall source us a × (m ≡ record (held_then n b) { calls = a ∷ b.calls }) = e no_binds in
-        (body.Iterated (count_of source n) d.0, iterated k n o c i l j (before p d.1 y) x, ap (built source action.Iterated) d.2)) r
+      let d : (a : Call) × IsCall source us a × (m ≡ record (held_then n b) { calls = a ∷ b.calls }) = e no_binds in
+      (body.Iterated (count_of source n) d.0, iterated k n o c i l j (before p d.1 y) x, ap (built source action.Iterated) d.2)) r
       (ap (λ z. k ∷ n ∷ o ∷ z) (append_assoc (us ++ p ∷ []) (c ∷ []) ts ∙ append_assoc us (p ∷ []) (c ∷ ts)))
   production-split production.ElseSome ss _ b f (s-skip k i (s-sub us _ m e (s-skip p y (s-skip c x (s-act {ts} r))))) =
       joined part.Else ss b f (built source action.IfElse m) (k ∷ ((us ++ p ∷ []) ++ c ∷ [])) ts _ (λ no_binds.
-        let d : (a : Call) × IsCall source us a × (m ≡ record b { calls = a ∷ b.calls }) = e no_binds in
-        (Some d.0, k ∷ (us ++ p ∷ []), c, refl, present (behind k i (before p d.1 y)), x, ap (built source action.IfElse) d.2)) r
+      let d : (a : Call) × IsCall source us a × (m ≡ record b { calls = a ∷ b.calls }) = e no_binds in
+      (Some d.0, k ∷ (us ++ p ∷ []), c, refl, present (behind k i (before p d.1 y)), x, ap (built source action.IfElse) d.2)) r
       (ap (λ z. k ∷ z) (append_assoc (us ++ p ∷ []) (c ∷ []) ts ∙ append_assoc us (p ∷ []) (c ∷ ts)))
   production-split production.ElseNone ss _ b f (s-skip c x (s-act {ts} r)) = joined part.Else ss b f (built source action.If b) (c ∷ []) ts _ (λ no_binds. (None, [], c, refl, absent, x, refl)) r refl
   production-split production.CallMore ss _ b f (s-sub us _ m e (s-skip c i (s-sub vs ws n g r))) =
       joined part.Calls ss b f n ((us ++ c ∷ []) ++ vs) ws _ (λ no_binds.
-        let d : (a : Call) × IsCall source us a × (m ≡ record b { calls = a ∷ b.calls }) = e no_binds in
-        let g' : Effect source part.Calls vs (record b { calls = d.0 ∷ b.calls }) n = subst (λ x. Effect source part.Calls vs x n) d.2 g in
-        let q = g' no_binds in
-        (d.0 ∷ q.0, more (before c d.1 i) q.1, q.2 ∙ ap (λ x. record b { calls = x }) (rev-more d.0 q.0 b.calls))) r
+      let d : (a : Call) × IsCall source us a × (m ≡ record b { calls = a ∷ b.calls }) = e no_binds in
+      let g' : Effect source part.Calls vs (record b { calls = d.0 ∷ b.calls }) n = subst (λ x. Effect source part.Calls vs x n) d.2 g in
+      let q = g' no_binds in
+      (d.0 ∷ q.0, more (before c d.1 i) q.1, q.2 ∙ ap (λ x. record b { calls = x }) (rev-more d.0 q.0 b.calls))) r
       (append_assoc (us ++ c ∷ []) vs ws ∙ append_assoc us (c ∷ []) (vs ++ ws))
   production-split production.CallEnd ss ts b f r = joined part.Calls ss b f b [] ts _ (λ no_binds. ([], none, refl)) r refl
   production-split production.Call ss _ b f (s-keep n i (s-skip o j (s-sub us _ m e (s-skip c x (s-act {ts} r))))) =
       joined part.Call ss b f (built source action.Call m) (n ∷ o ∷ (us ++ c ∷ [])) ts _ (λ no_binds.
-        (record { callee = name_of source n; binds = e.0 }, call n o c i j e.1 x, ap (built source action.Call) e.2 ∙ call-same source b n e.0 no_binds)) r
+      (record { callee = name_of source n; binds = e.0 }, call n o c i j e.1 x, ap (built source action.Call) e.2 ∙ call-same source b n e.0 no_binds)) r
       (ap (λ z. n ∷ o ∷ z) (append_assoc us (c ∷ []) ts))
   production-split production.BindFirst ss _ b f (s-sub us _ m e (s-sub vs ws n g r)) =
       joined part.BindList ss b f n (us ++ vs) ws _ (
-        let q : Effect source part.BindsTail vs (record b { binds = b.binds ++ e.0 ∷ [] }) n = subst (λ x. Effect source part.BindsTail vs x n) e.2 g in
-        (e.0 ∷ q.0, items e.1 q.1, q.2 ∙ ap (λ x. record b { binds = x }) (append_assoc b.binds (e.0 ∷ []) q.0))) r (append_assoc us vs ws)
+      let q : Effect source part.BindsTail vs (record b { binds = b.binds ++ e.0 ∷ [] }) n = subst (λ x. Effect source part.BindsTail vs x n) e.2 g in
+      (e.0 ∷ q.0, items e.1 q.1, q.2 ∙ ap (λ x. record b { binds = x }) (append_assoc b.binds (e.0 ∷ []) q.0))) r (append_assoc us vs ws)
   production-split production.BindNone ss ts b f r = joined part.BindList ss b f b [] ts _ ([], no_items, ap (λ x. record b { binds = x }) (sym (append-nil b.binds))) r refl
   production-split production.BindNext ss _ b f (s-skip c i (s-sub us _ m e (s-sub vs ws n g r))) =
       joined part.BindsTail ss b f n (c ∷ (us ++ vs)) ws _ (
-        let q : Effect source part.BindsTail vs (record b { binds = b.binds ++ e.0 ∷ [] }) n = subst (λ x. Effect source part.BindsTail vs x n) e.2 g in
-        (e.0 ∷ q.0, more (behind c i e.1) q.1, q.2 ∙ ap (λ x. record b { binds = x }) (append_assoc b.binds (e.0 ∷ []) q.0))) r (ap (λ z. c ∷ z) (append_assoc us vs ws))
+      let q : Effect source part.BindsTail vs (record b { binds = b.binds ++ e.0 ∷ [] }) n = subst (λ x. Effect source part.BindsTail vs x n) e.2 g in
+      (e.0 ∷ q.0, more (behind c i e.1) q.1, q.2 ∙ ap (λ x. record b { binds = x }) (append_assoc b.binds (e.0 ∷ []) q.0))) r (ap (λ z. c ∷ z) (append_assoc us vs ws))
   production-split production.BindLast ss ts b f r = joined part.BindsTail ss b f b [] ts _ ([], none, ap (λ x. record b { binds = x }) (sym (append-nil b.binds))) r refl
   production-split production.Bind ss _ b f (s-keep n i (s-sub us vs m e r)) = bound e where
     bound : BoundEffect source us (held_then n b) m → Split source (Sub part.Bind ∷ ss) (n ∷ (us ++ vs)) b f

@@ -1,4 +1,4 @@
-use Rattle.std.proofs.Common.{ℕ, ◌+◌, ◌<◌, ◌≤◌, ◌≡◌, ◌↔◌, ◌⊎◌, inl, inr, Bool, true, false, ◌||◌, ◌&&◌, List, [], ◌∷◌, ◌++◌, Option, Some, None, is_some, nat_lt, cond, refl, ap, sym, subst, ◌∙◌, arith}
+use Rattle.std.proofs.Common.{ℕ, ◌+◌, ◌<◌, ◌≤◌, ◌≡◌, ◌⊎◌, inl, inr, Bool, true, false, ◌||◌, ◌&&◌, List, [], ◌∷◌, ◌++◌, Option, Some, None, is_some, nat_lt, cond, refl, ap, sym, subst, ◌∙◌, arith}
 use Rattle.std.proofs.lemmas.Bool.Decides.{nat_tests}
 use Rattle.hs_tokens.specs.declared.token.Kind.{Kind}
 use Rattle.hs_tokens.specs.declared.token.Token.{Token}
@@ -47,9 +47,9 @@ or-cases false b h = inr h
 -- a production that begins with a token is the one that is chosen, or it may be nothing and what follows begins so
 choose : (p : Production) (ss : List Symbol) (k : Kind) → begins (right p ++ ss) k ≡ true → (choice_of (part_of p) k ≡ Some p) ⊎ ((empty_of (part_of p) ≡ Some p) × (begins ss k ≡ true))
 choose p ss k h = elim (or-cases (begins (right p) k) (empties (right p) && begins ss k) (sym (begins-append (right p) ss k) ∙ h)) [
-    inl a ↦ inl (begins-chosen p k a)
+  | inl a ↦ inl (begins-chosen p k a)
   | inr b ↦ inr (empties-chosen p (and-left (empties (right p)) (begins ss k) b), and-right (empties (right p)) (begins ss k) b)
-  ]
+]
 
 is-some : (o : Option Production) (p : Production) → o ≡ Some p → is_some o ≡ true
 is-some None p e = cc
@@ -57,9 +57,9 @@ is-some (Some q) p e = refl
 
 production-begins : (p : Production) (ss : List Symbol) (k : Kind) → begins (right p ++ ss) k ≡ true → begins (Sub (part_of p) ∷ ss) k ≡ true
 production-begins p ss k h = elim (choose p ss k h) [
-    inl a ↦ rw (is-some (choice_of (part_of p) k) p a) refl
+  | inl a ↦ rw (is-some (choice_of (part_of p) k) p a) refl
   | inr b ↦ rw (is-some (empty_of (part_of p)) p b.0, b.1) (or-true (is_some (choice_of (part_of p) k)))
-  ] where
+] where
   or-true : (a : Bool) → (a || true) ≡ true
   or-true true = refl
   or-true false = refl
@@ -115,17 +115,17 @@ sub-step {source} n t p ss u b f fine e d =
     let s : (q : Production) × (part_of q ≡ n) × Derives source (right q ++ ss) (t ∷ u) b f = by-step d in
     let q : Production = s.0 in
     elim (choose q ss t.kind (begins-true s.2)) [
-      inl a ↦
-      let c : choice_of n t.kind ≡ Some q = subst (λ m. choice_of m t.kind ≡ Some q) s.1 a in
-      let g : production_of n t.kind ≡ Some q = ap (λ o. or_else o (empty_of n)) c in
-      let h : q ≡ p = some-same (production_of n t.kind) q p g e in
-      subst (λ r. Derives source (right r ++ ss) (t ∷ u) b f) h s.2
-    | inr a ↦
-      let o : empty_of n ≡ Some q = subst (λ m. empty_of m ≡ Some q) s.1 a.0 in
-      let c : choice_of n t.kind ≡ None = apart n t.kind q o (fine.0 t.kind a.1) in
-      let g : production_of n t.kind ≡ Some q = ap (λ x. or_else x (empty_of n)) c ∙ o in
-      let h : q ≡ p = some-same (production_of n t.kind) q p g e in
-      subst (λ r. Derives source (right r ++ ss) (t ∷ u) b f) h s.2
+      | inl a ↦
+          let c : choice_of n t.kind ≡ Some q = subst (λ m. choice_of m t.kind ≡ Some q) s.1 a in
+          let g : production_of n t.kind ≡ Some q = ap (λ o. or_else o (empty_of n)) c in
+          let h : q ≡ p = some-same (production_of n t.kind) q p g e in
+          subst (λ r. Derives source (right r ++ ss) (t ∷ u) b f) h s.2
+      | inr a ↦
+          let o : empty_of n ≡ Some q = subst (λ m. empty_of m ≡ Some q) s.1 a.0 in
+          let c : choice_of n t.kind ≡ None = apart n t.kind q o (fine.0 t.kind a.1) in
+          let g : production_of n t.kind ≡ Some q = ap (λ x. or_else x (empty_of n)) c ∙ o in
+          let h : q ≡ p = some-same (production_of n t.kind) q p g e in
+          subst (λ r. Derives source (right r ++ ss) (t ∷ u) b f) h s.2
     ]
 
 pub sub-back : {source : List ℕ} (n : Part) (t : Token) (p : Production) (ss : List Symbol) (u : List Token) (b f : Builder) → production_of n t.kind ≡ Some p → Derives source (right p ++ ss) (t ∷ u) b f → Derives source (Sub n ∷ ss) (t ∷ u) b f
@@ -136,19 +136,20 @@ sub-none {source} n t ss u b f e d =
     let s : (q : Production) × (part_of q ≡ n) × Derives source (right q ++ ss) (t ∷ u) b f = by-step d in
     let q : Production = s.0 in
     elim (choose q ss t.kind (begins-true s.2)) [
-      inl a ↦
-      let c : choice_of n t.kind ≡ Some q = subst (λ m. choice_of m t.kind ≡ Some q) s.1 a in
-      none-some (production_of n t.kind) q e (ap (λ o. or_else o (empty_of n)) c)
-    | inr a ↦
-      let o : empty_of n ≡ Some q = subst (λ m. empty_of m ≡ Some q) s.1 a.0 in
-      none-else (choice_of n t.kind) (empty_of n) q o e
+      | inl a ↦
+          let c : choice_of n t.kind ≡ Some q = subst (λ m. choice_of m t.kind ≡ Some q) s.1 a in
+          none-some (production_of n t.kind) q e (ap (λ o. or_else o (empty_of n)) c)
+      | inr a ↦
+          let o : empty_of n ≡ Some q = subst (λ m. empty_of m ≡ Some q) s.1 a.0 in
+          none-else (choice_of n t.kind) (empty_of n) q o e
     ]
   where
-  none-some : (o : Option Production) (q : Production) → o ≡ None → o ≡ Some q → ⊥
-  none-some o q e f = cc
-  none-else : (c o : Option Production) (q : Production) → o ≡ Some q → or_else c o ≡ None → ⊥
-  none-else (Some r) o q f e = cc
-  none-else None o q f e = cc
+    none-some : (o : Option Production) (q : Production) → o ≡ None → o ≡ Some q → ⊥
+    none-some o q e f = cc
+
+    none-else : (c o : Option Production) (q : Production) → o ≡ Some q → or_else c o ≡ None → ⊥
+    none-else (Some r) o q f e = cc
+    none-else None o q f e = cc
 
 -- WHAT STAYS FINE
 
@@ -169,14 +170,16 @@ fine-append (Skip j ∷ xs) ss n h f fine = fine-append xs ss n h f fine
 fine-append (Keep w ∷ xs) ss n h f fine = fine-append xs ss n h f fine
 fine-append (Act a ∷ xs) ss n h f fine = fine-append xs ss n h f fine
 fine-append (Sub m ∷ xs) ss n h f fine = (
-    (λ k e. implied-by (begins_then xs k (follows n k)) (follows m k) (kept xs k (follows n k)) (h k) (begins-more xs ss k (follows n k) (f k) e)),
-    fine-append xs ss n (λ k. rest (begins_then xs k (follows n k)) (follows m k) (kept xs k (follows n k)) (h k)) f fine)
+  (λ k e. implied-by (begins_then xs k (follows n k)) (follows m k) (kept xs k (follows n k)) (h k) (begins-more xs ss k (follows n k) (f k) e)),
+  fine-append xs ss n (λ k. rest (begins_then xs k (follows n k)) (follows m k) (kept xs k (follows n k)) (h k)) f fine,
+)
   where
-  implied-by : (a b c : Bool) → (implies a b && c) ≡ true → a ≡ true → b ≡ true
-  implied-by true b c h e = and-left b c h
-  implied-by false b c h e = cc
-  rest : (a b c : Bool) → (implies a b && c) ≡ true → c ≡ true
-  rest a b c h = and-right (implies a b) c h
+    implied-by : (a b c : Bool) → (implies a b && c) ≡ true → a ≡ true → b ≡ true
+    implied-by true b c h e = and-left b c h
+    implied-by false b c h e = cc
+
+    rest : (a b c : Bool) → (implies a b && c) ≡ true → c ≡ true
+    rest a b c h = and-right (implies a b) c h
 
 pub fine-step : (n : Part) (k : Kind) (p : Production) (ss : List Symbol) → production_of n k ≡ Some p → Fine (Sub n ∷ ss) → Fine (right p ++ ss)
 fine-step n k p ss e fine =
@@ -235,8 +238,8 @@ measure-lower k n (Sub m ∷ xs) ss h =
     let less : nat_lt (level m) (level n) ≡ true = and-right (is_some (choice_of m k)) (nat_lt (level m) (level n)) h in
     rw some (below (level m) (level n) less)
   where
-  below : (a b : ℕ) → nat_lt a b ≡ true → a < b
-  below a b h = grind (arith, nat_tests)
+    below : (a b : ℕ) → nat_lt a b ≡ true → a < b
+    below a b h = grind (arith, nat_tests)
 
 pub measure-step : (n : Part) (k : Kind) (p : Production) (ss : List Symbol) → production_of n k ≡ Some p → measure k (right p ++ ss) < measure k (Sub n ∷ ss)
 unfolding measure

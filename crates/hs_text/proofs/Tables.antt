@@ -1,16 +1,11 @@
-use Rattle.std.proofs.Common.{ℕ, zero, suc, ◌+◌, ◌<◌, ◌≤◌, ◌≡◌, ◌↔◌, ◌⊎◌, inl, inr, Bool, true, false, ◌||◌, ◌&&◌, List, [], ◌∷◌, ◌++◌, Option, Some, None, is_some, nat_eq, nat_lt, get_or, cond, refl, ap, sym, subst, ◌∙◌, arith, lit<}
+use Rattle.std.proofs.Common.{ℕ, zero, suc, ◌<◌, ◌≡◌, Bool, true, false, ◌||◌, ◌&&◌, List, [], ◌∷◌, Option, Some, None, is_some, nat_eq, nat_lt, get_or, refl, ap, sym, subst, ◌∙◌, arith, lit<}
 use Rattle.std.specs.List.{list_all}
 use Rattle.hs_tokens.specs.declared.token.Kind.{Kind}
 use Rattle.hs_tokens.specs.declared.token.Kind.TheVariants as kind
-use Rattle.hs_text.specs.declared.grammar.Term.{Term}
-use Rattle.hs_text.specs.declared.grammar.Term.TheVariants as term
-use Rattle.hs_tokens.specs.declared.token.Token.{Token}
 use Rattle.hs_text.specs.declared.grammar.Part.{Part}
 use Rattle.hs_text.specs.declared.grammar.Part.TheVariants as part
 use Rattle.hs_text.specs.declared.grammar.Production.{Production}
 use Rattle.hs_text.specs.declared.grammar.Production.TheVariants as production
-use Rattle.hs_text.specs.declared.grammar.Action.{Action}
-use Rattle.hs_text.specs.declared.grammar.Action.TheVariants as action
 use Rattle.hs_text.specs.declared.grammar.Symbol.{Symbol}
 use Rattle.hs_text.specs.declared.grammar.Symbol.TheVariants.{Skip, Keep, Sub, Act}
 use Rattle.hs_tokens.specs.Kinds.{code, same}
@@ -552,9 +547,9 @@ apart n k p e f =
     let both : (is_some (empty_of n) && follows n k) ≡ true = rw (e, f) refl in
     no-choice (choice_of n k) (implied (is_some (empty_of n) && follows n k) (negated (is_some (choice_of n k))) (every (λ j. implies (is_some (empty_of n) && follows n j) (negated (is_some (choice_of n j)))) (apart_rows n) k) both)
   where
-  no-choice : (o : Option Production) → negated (is_some o) ≡ true → o ≡ None
-  no-choice None h = refl
-  no-choice (Some q) h = cc
+    no-choice : (o : Option Production) → negated (is_some o) ≡ true → o ≡ None
+    no-choice None h = refl
+    no-choice (Some q) h = cc
 
 -- 4. the production that is chosen is one of the part, and goes down to the token
 pub level : Part → ℕ

@@ -1,4 +1,4 @@
-use Rattle.std.proofs.Common.{ℕ, Bool, true, false, ◌+◌, ◌<◌, ◌≤◌, ◌≡◌, ◌↔◌, List, [], ◌∷◌, ◌++◌, take, drop, get_or, length, refl, ap, sym, subst, ◌∙◌, append_assoc, arith}
+use Rattle.std.proofs.Common.{ℕ, Bool, true, false, ◌+◌, ◌<◌, ◌≤◌, ◌≡◌, ◌↔◌, List, [], ◌∷◌, ◌++◌, take, drop, get_or, length, refl, ap, sym, subst, ◌∙◌, append_assoc}
 use Rattle.std.proofs.lemmas.List.{append-nil, take-append-drop, drop_more, take_all}
 use Rattle.std.specs.Bool.{OnTrue, OnFalse}
 use Rattle.hs_tokens.specs.declared.token.Token.{Token}
@@ -38,9 +38,10 @@ module _ (source : List ℕ) (front : List Token) (stack : List Symbol) (b : Bui
   stands-next t after new c taken e = record {
     fine = taken.fine;
     same_texts = λ u f.
-      let w : after ++ u ≡ front ++ (t ∷ u) = ap (λ x. x ++ u) e ∙ append_assoc front (t ∷ []) u in
-      ((λ d. (taken.same_texts u f).0 ((stands.same_texts (t ∷ u) f).0 (subst (λ x. Derives source (Sub part.Text ∷ []) x no_builder f) w d))),
-      (λ d. subst (λ x. Derives source (Sub part.Text ∷ []) x no_builder f) (sym w) ((stands.same_texts (t ∷ u) f).1 ((taken.same_texts u f).1 d))));
+        let w : after ++ u ≡ front ++ (t ∷ u) = ap (λ x. x ++ u) e ∙ append_assoc front (t ∷ []) u in (
+          (λ d. (taken.same_texts u f).0 ((stands.same_texts (t ∷ u) f).0 (subst (λ x. Derives source (Sub part.Text ∷ []) x no_builder f) w d))),
+          (λ d. subst (λ x. Derives source (Sub part.Text ∷ []) x no_builder f) (sym w) ((stands.same_texts (t ∷ u) f).1 ((taken.same_texts u f).1 d))),
+        );
   }
 
   pub stands-begins : Begins source front
@@ -54,14 +55,14 @@ module _ (source : List ℕ) (front : List Token) (stack : List Symbol) (b : Bui
       let d : Derives source (Sub part.Text ∷ []) ((front ++ t ∷ []) ++ h.0) no_builder (record no_builder { definitions = h.1 }) = written source no_builder nothing-made h.2 in
       let w : (front ++ t ∷ []) ++ h.0 ≡ front ++ (t ∷ h.0) = append_assoc front (t ∷ []) h.0 in
       refused h.0 (record no_builder { definitions = h.1 }) ((stands.same_texts (t ∷ h.0) (record no_builder { definitions = h.1 })).0
-        (subst (λ x. Derives source (Sub part.Text ∷ []) x no_builder (record no_builder { definitions = h.1 })) w d))
+      (subst (λ x. Derives source (Sub part.Text ∷ []) x no_builder (record no_builder { definitions = h.1 })) w d))
 
   pub stands-unfinished : IsCutOff source stack b → IsUnfinished source front
   stands-unfinished cut = record {
     right = stands-begins;
     no_text = λ ds t.
-      let d : Derives source (Sub part.Text ∷ []) front no_builder (record no_builder { definitions = ds }) = written source no_builder nothing-made t in
-      cut (record no_builder { definitions = ds }) ((stands.same_texts [] (record no_builder { definitions = ds })).0
+        let d : Derives source (Sub part.Text ∷ []) front no_builder (record no_builder { definitions = ds }) = written source no_builder nothing-made t in
+        cut (record no_builder { definitions = ds }) ((stands.same_texts [] (record no_builder { definitions = ds })).0
         (subst (λ x. Derives source (Sub part.Text ∷ []) x no_builder (record no_builder { definitions = ds })) (sym (append-nil front)) d));
   }
 

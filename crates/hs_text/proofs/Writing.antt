@@ -1,43 +1,33 @@
-use Rattle.std.proofs.Common.{ℕ, true, ◌≡◌, ◌⊎◌, inl, inr, List, [], ◌∷◌, ◌++◌, reverse, Option, Some, None, refl, ap, sym, subst, ◌∙◌, append_assoc}
+use Rattle.std.proofs.Common.{ℕ, ◌≡◌, List, [], ◌∷◌, ◌++◌, reverse, Option, refl, ap, sym, subst, ◌∙◌, append_assoc}
 use Rattle.std.proofs.lemmas.List.{append-nil}
 use Rattle.hs_expr.specs.declared.Piece.{Piece}
 use Rattle.hs_expr.specs.declared.Piece.TheVariants as piece
-use Rattle.hs_tokens.specs.declared.token.Kind.{Kind}
 use Rattle.hs_tokens.specs.declared.token.Kind.TheVariants as kind
 use Rattle.hs_tokens.specs.declared.token.Token.{Token}
-use Rattle.hs_tokens.specs.Kinds.{same}
 use Rattle.hs_text.specs.declared.grammar.Part.{Part}
 use Rattle.hs_text.specs.declared.grammar.Part.TheVariants as part
-use Rattle.hs_text.specs.declared.grammar.Production.{Production}
 use Rattle.hs_text.specs.declared.grammar.Production.TheVariants as production
-use Rattle.hs_text.specs.declared.grammar.Action.{Action}
 use Rattle.hs_text.specs.declared.grammar.Action.TheVariants as action
 use Rattle.hs_text.specs.declared.grammar.Symbol.{Symbol}
-use Rattle.hs_text.specs.declared.grammar.Symbol.TheVariants.{Skip, Keep, Sub, Act}
-use Rattle.hs_text.specs.declared.grammar.Term.{Term}
+use Rattle.hs_text.specs.declared.grammar.Symbol.TheVariants.{Skip, Sub, Act}
 use Rattle.hs_text.specs.declared.grammar.Term.TheVariants as term
 use Rattle.hs_text.specs.declared.syntax.Param.{Param}
 use Rattle.hs_text.specs.declared.syntax.Element.{Element}
 use Rattle.hs_text.specs.declared.syntax.Simple.{Simple}
-use Rattle.hs_text.specs.declared.syntax.Simple.TheVariants as simple
 use Rattle.hs_text.specs.declared.syntax.Item.{Item}
-use Rattle.hs_text.specs.declared.syntax.Item.TheVariants as item
 use Rattle.hs_text.specs.declared.syntax.Atom.{Atom}
 use Rattle.hs_text.specs.declared.syntax.Bind.{Bind}
-use Rattle.hs_text.specs.declared.syntax.Bind.TheVariants as bind
 use Rattle.hs_text.specs.declared.syntax.Call.{Call}
 use Rattle.hs_text.specs.declared.syntax.Body.{Body}
-use Rattle.hs_text.specs.declared.syntax.Body.TheVariants as body
 use Rattle.hs_text.specs.declared.syntax.Definition.{Definition}
-use Rattle.hs_text.specs.declared.syntax.Definition.TheVariants as definition
 use Rattle.hs_text.specs.declared.builder.Builder.{Builder}
-use Rattle.hs_text.specs.Terms.{Is, matches}
-use Rattle.hs_text.specs.Words.{name_of, mark_of, sign_of, listed_of, count_of, direction_of}
-use Rattle.hs_text.specs.Lists.{Many, none, more, Optional, absent, present, Behind, behind, Before, before, Separated, no_items, items}
+use Rattle.hs_text.specs.Terms.{Is}
+use Rattle.hs_text.specs.Words.{sign_of}
+use Rattle.hs_text.specs.Lists.{Many, none, more, Optional, absent, present, Behind, behind, before, Separated, no_items, items}
 use Rattle.hs_text.specs.Grammar.{Level, Expr, Or, Conj, And, Neg, Cmp, Comparison, Sum, Addition, Prod, Product, Fact, Expression, expr, no_or, or, conj, no_and, and, not, neg, cmp, no_comparison, comparison, sum, no_addition, addition, prod, no_product, product, literal, name, slot, parens, minus, IsParam, param, IsParams, params, IsElement, node, edge, IsSimple, marked, set, test, Elements, IsItem, simply, forbid, require, multi, IsAtom, value, negative, IsBind, give, take, IsCall, call, CallThen, IsBody, listed, conditional, loop, iterated, IsDefinition, rule, unit, IsText}
-use Rattle.hs_text.specs.Building.{held_then, built, finished, given, first, below_one}
-use Rattle.hs_text.specs.Machine.{Derives, done, skip, keep, act, by, part_of, right}
-use Rattle.hs_text.proofs.Effects.{Scratch, Fresh, Writes, SlotEffect, else_built, ElseEffect, ValueEffect, BoundEffect, Effect, rev-more, rev-all, forbid-same, require-same, multi-same, set-same, where-same, rule-same, unit-same, call-same, listed-same, loop-same, iterated-same, else-same}
+use Rattle.hs_text.specs.Building.{held_then, finished, given, first, below_one}
+use Rattle.hs_text.specs.Machine.{Derives, done, skip, keep, act, by}
+use Rattle.hs_text.proofs.Effects.{Scratch, Fresh, else_built, rev-more, forbid-same, require-same, multi-same, set-same, where-same, rule-same, unit-same, call-same, listed-same, else-same}
 
 -- WHAT IS READ IS DERIVED
 
@@ -55,7 +45,7 @@ module _ (source : List ℕ) where
   write-params-tail none ss vs b f k = by production.ParamLast refl (at-builder (ap (λ x. record b { params = x }) (sym (append-nil b.params))) k)
   write-params-tail (more {us} {x} {xs} (behind t {ts} i p) r) ss vs b f k =
       by production.ParamNext refl (skip i (at-tokens (append_assoc ts us vs) (write-param p (Sub part.ParamsTail ∷ ss) (us ++ vs) b f
-        (write-params-tail r ss vs (record b { params = b.params ++ x ∷ [] }) f (at-builder (ap (λ z. record b { params = z }) (append_assoc b.params (x ∷ []) xs)) k)))))
+      (write-params-tail r ss vs (record b { params = b.params ++ x ∷ [] }) f (at-builder (ap (λ z. record b { params = z }) (append_assoc b.params (x ∷ []) xs)) k)))))
 
   write-param-list : {us : List Token} {ps : List Param} → Separated (IsParam source) (term.Just kind.Comma) us ps → (ss : List Symbol) (vs : List Token) (b f : Builder) → Derives source ss vs (record b { params = b.params ++ ps }) f → Derives source (Sub part.ParamList ∷ ss) (us ++ vs) b f
   write-param-list no_items ss vs b f k = by production.ParamNone refl (at-builder (ap (λ x. record b { params = x }) (sym (append-nil b.params))) k)
@@ -73,7 +63,7 @@ module _ (source : List ℕ) where
   write-elements none ss vs b f k = by production.ElementEnd refl k
   write-elements (more {us} {x} {xs} (before t {ts} p i) r) ss vs b f k =
       by production.ElementMore refl (at-tokens (append_assoc (ts ++ t ∷ []) us vs ∙ append_assoc ts (t ∷ []) (us ++ vs)) (write-element p (Skip kind.Semicolon ∷ Sub part.Elements ∷ ss) (t ∷ (us ++ vs)) b f
-        (skip i (write-elements r ss vs (record b { elements = x ∷ b.elements }) f (at-builder (ap (λ z. record b { elements = z }) (rev-more x xs b.elements)) k)))))
+      (skip i (write-elements r ss vs (record b { elements = x ∷ b.elements }) f (at-builder (ap (λ z. record b { elements = z }) (rev-more x xs b.elements)) k)))))
 
   -- where an expression of a level begins
   part-of : Level → Part
@@ -158,7 +148,7 @@ module _ (source : List ℕ) where
   write-binds-tail none ss vs b f k = by production.BindLast refl (at-builder (ap (λ x. record b { binds = x }) (sym (append-nil b.binds))) k)
   write-binds-tail (more {us} {x} {xs} (behind t {ts} i p) r) ss vs b f k =
       by production.BindNext refl (skip i (at-tokens (append_assoc ts us vs) (write-bind p (Sub part.BindsTail ∷ ss) (us ++ vs) b f
-        (write-binds-tail r ss vs (record b { binds = b.binds ++ x ∷ [] }) f (at-builder (ap (λ z. record b { binds = z }) (append_assoc b.binds (x ∷ []) xs)) k)))))
+      (write-binds-tail r ss vs (record b { binds = b.binds ++ x ∷ [] }) f (at-builder (ap (λ z. record b { binds = z }) (append_assoc b.binds (x ∷ []) xs)) k)))))
 
   write-bind-list : {us : List Token} {bs : List Bind} → Separated (IsBind source) (term.Just kind.Comma) us bs → (ss : List Symbol) (vs : List Token) (b f : Builder) → Derives source ss vs (record b { binds = b.binds ++ bs }) f → Derives source (Sub part.BindList ∷ ss) (us ++ vs) b f
   write-bind-list no_items ss vs b f k = by production.BindNone refl (at-builder (ap (λ x. record b { binds = x }) (sym (append-nil b.binds))) k)
@@ -186,20 +176,20 @@ module _ (source : List ℕ) where
   write-body (listed q o c {ts} {cs} i j e x) ss vs b f g h k = by production.BodyListed refl (keep i (skip j (at-tokens (append_assoc ts (c ∷ []) vs) (write-calls e (Skip kind.RightBrace ∷ Act action.Listed ∷ ss) (c ∷ vs) (held_then q b) f h (skip x (act (at-builder (listed-same source b q cs g) k)))))))
   write-body (conditional q o i1 h1 c {ts} {us} {vs = ws} {a = a1} {b = a2} {e} i j x p y r z w) ss vs b f g h k =
       by production.BodyConditional refl (skip i (skip j (skip x (at-tokens (append_assoc ts (h1 ∷ (us ++ (ws ++ c ∷ []))) vs ∙ ap (λ v. ts ++ (h1 ∷ v)) (append_assoc us (ws ++ c ∷ []) vs ∙ ap (λ v. us ++ v) (append_assoc ws (c ∷ []) vs)))
-        (write-call-then p (Skip kind.Then ∷ Sub part.Call ∷ Skip kind.Semicolon ∷ Sub part.Else ∷ ss) (h1 ∷ (us ++ (ws ++ (c ∷ vs)))) b f h (skip y
-          (write-call-then r (Sub part.Else ∷ ss) (ws ++ (c ∷ vs)) (record b { calls = a1 ∷ b.calls }) f h
-            (write-else z c w ss vs (record b { calls = a2 ∷ a1 ∷ b.calls }) f h (at-builder (else-same source b a1 a2 e) k)))))))))
+      (write-call-then p (Skip kind.Then ∷ Sub part.Call ∷ Skip kind.Semicolon ∷ Sub part.Else ∷ ss) (h1 ∷ (us ++ (ws ++ (c ∷ vs)))) b f h (skip y
+      (write-call-then r (Sub part.Else ∷ ss) (ws ++ (c ∷ vs)) (record b { calls = a1 ∷ b.calls }) f h
+      (write-else z c w ss vs (record b { calls = a2 ∷ a1 ∷ b.calls }) f h (at-builder (else-same source b a1 a2 e) k)))))))))
   write-body (loop q o c {ts} {a} i j p x) ss vs b f g h k = by production.BodyLoop refl (skip i (skip j (at-tokens (append_assoc ts (c ∷ []) vs) (write-call-then p (Skip kind.RightBrace ∷ Act action.Loop ∷ ss) (c ∷ vs) b f h (skip x (act k))))))
   write-body (iterated q n o c {ts} {a} i l j p x) ss vs b f g h k = by production.BodyIterated refl (skip i (keep l (skip j (at-tokens (append_assoc ts (c ∷ []) vs) (write-call-then p (Skip kind.RightBrace ∷ Act action.Iterated ∷ ss) (c ∷ vs) (held_then n b) f h (skip x (act k)))))))
 
   write-definition : {us : List Token} {d : Definition} → IsDefinition source us d → (ss : List Symbol) (vs : List Token) (b f : Builder) → Fresh b → Derives source ss vs (record b { definitions = b.definitions ++ d ∷ [] }) f → Derives source (Sub part.Definition ∷ ss) (us ++ vs) b f
   write-definition (rule q n o c {ts} {us} {ps} {is} i j p x r y) ss vs b f h k =
       by production.RuleDefinition refl (skip i (keep j (at-tokens (append_assoc ts (o ∷ (us ++ c ∷ [])) vs ∙ ap (λ v. ts ++ (o ∷ v)) (append_assoc us (c ∷ []) vs))
-        (write-params p (Skip kind.LeftBrace ∷ Sub part.Items ∷ Skip kind.RightBrace ∷ Act action.Rule ∷ ss) (o ∷ (us ++ (c ∷ vs))) (held_then n b) f (skip x
-          (write-items r (Skip kind.RightBrace ∷ Act action.Rule ∷ ss) (c ∷ vs) (record (held_then n b) { params = b.params ++ ps }) f (h.2, h.3, h.4) (skip y (act (at-builder (rule-same source b n ps is h.0 h.1) k)))))))))
+      (write-params p (Skip kind.LeftBrace ∷ Sub part.Items ∷ Skip kind.RightBrace ∷ Act action.Rule ∷ ss) (o ∷ (us ++ (c ∷ vs))) (held_then n b) f (skip x
+      (write-items r (Skip kind.RightBrace ∷ Act action.Rule ∷ ss) (c ∷ vs) (record (held_then n b) { params = b.params ++ ps }) f (h.2, h.3, h.4) (skip y (act (at-builder (rule-same source b n ps is h.0 h.1) k)))))))))
   write-definition (unit q n {ts} {us} {ps} {b = y} i j p r) ss vs b f h k =
       by production.UnitDefinition refl (skip i (keep j (at-tokens (append_assoc ts us vs) (write-params p (Sub part.Body ∷ ss) (us ++ vs) (held_then n b) f
-        (write-body r ss vs (record (held_then n b) { params = b.params ++ ps }) f h.5 h.6 (at-builder (unit-same source b n ps y h.0) k))))))
+      (write-body r ss vs (record (held_then n b) { params = b.params ++ ps }) f h.5 h.6 (at-builder (unit-same source b n ps y h.0) k))))))
 
   write-text : {us : List Token} {ds : List Definition} → IsText source us ds → (ss : List Symbol) (vs : List Token) (b f : Builder) → Fresh b → Derives source ss vs (record b { definitions = b.definitions ++ ds }) f → Derives source (Sub part.Text ∷ ss) (us ++ vs) b f
   write-text none ss vs b f h k = by production.TextEnd refl (at-builder (ap (λ x. record b { definitions = x }) (sym (append-nil b.definitions))) k)

@@ -1,12 +1,11 @@
 use Rattle.std.specs.Prelude.{ℕ, ◌≡◌, List, [], ◌∷◌, ◌++◌}
 use Rattle.hs_tokens.specs.declared.token.Token.{Token}
 use Rattle.hs_tokens.specs.declared.token.Place.{Place}
-use Rattle.hs_tokens.specs.declared.fault.FaultKind.{FaultKind}
 use Rattle.hs_tokens.specs.declared.fault.FaultKind.TheVariants as fault
 use Rattle.hs_tokens.specs.declared.fault.TextFault.{TextFault}
 use Rattle.hs_tokens.specs.declared.fault.TextFault.TheVariants.{NoMemory, Fault}
 use Rattle.hs_tokens.specs.Tokens.{first_place, after}
-use Rattle.hs_tokens.specs.Lexing.{Ending, Whole, Lexes, IsTokenFault}
+use Rattle.hs_tokens.specs.Lexing.{Whole, Lexes, IsTokenFault}
 use Rattle.hs_text.specs.declared.syntax.Definition.{Definition}
 use Rattle.hs_text.specs.declared.syntax.Syntax.{Syntax}
 use Rattle.hs_text.specs.Grammar.{IsText}

@@ -5,9 +5,7 @@ ghost use Rattle.hs_text.specs.declared.grammar.Action.TheVariants as action;
 
 use crate::grammar::Action;
 use crate::stack::Stack;
-use crate::syntax::{
-    Atom, Bind, Body, Call, Definition, Element, Item, Param, Rule, Simple, Unit,
-};
+use crate::syntax::{Atom, Bind, Body, Call, Definition, Element, Item, Param, Rule, Simple, Unit};
 use crate::words;
 use hs_expr::{List, NameExpr, Piece};
 use hs_tokens::Token;
@@ -269,7 +267,8 @@ impl Builder {
     {
         let name = words::name(alloc, source, self.last())?;
         let params = mem::replace(&mut self.params, List::new(alloc));
-        self.definitions.push(Definition::Unit(Unit { name, params, body }))
+        self.definitions
+            .push(Definition::Unit(Unit { name, params, body }))
     }
 
     fn listed(&mut self, alloc: Global, source: &[char]) -> Result<(), AllocError>

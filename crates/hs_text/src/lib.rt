@@ -11,13 +11,17 @@ use std::alloc::{AllocError, Global};
 mod builder;
 mod expand;
 mod grammar;
+mod laws;
 mod parser;
 mod stack;
 mod syntax;
 mod table;
+#[cfg(test)]
+mod tests;
 mod words;
 
 pub use hs_tokens::{FaultKind, TextFault};
+pub use laws::{each_is_judged, judged_once, one_syntax};
 pub use syntax::{
     Atom, Bind, Body, Call, Count, Definition, Direction, Element, Item, Mark, Param, Rule, Simple,
     Syntax, Unit,

@@ -42,7 +42,38 @@ fn is_word(kind: Kind) -> bool
     ensures { result ≡ matches term.Word kind }
 {
     match kind {
-        Kind::Name | Kind::Rule | Kind::Unit | Kind::In | Kind::Out | Kind::Preserve | Kind::Create | Kind::Delete | Kind::Forbid | Kind::Require | Kind::Multi | Kind::Node | Kind::Edge | Kind::Set | Kind::Where | Kind::Sequential | Kind::Independent | Kind::Priority | Kind::Conditional | Kind::If | Kind::Then | Kind::Else | Kind::Loop | Kind::Iterated | Kind::And | Kind::Or | Kind::Not | Kind::True | Kind::False | Kind::IntWord | Kind::Bool | Kind::TextWord => true,
+        Kind::Name
+        | Kind::Rule
+        | Kind::Unit
+        | Kind::In
+        | Kind::Out
+        | Kind::Preserve
+        | Kind::Create
+        | Kind::Delete
+        | Kind::Forbid
+        | Kind::Require
+        | Kind::Multi
+        | Kind::Node
+        | Kind::Edge
+        | Kind::Set
+        | Kind::Where
+        | Kind::Sequential
+        | Kind::Independent
+        | Kind::Priority
+        | Kind::Conditional
+        | Kind::If
+        | Kind::Then
+        | Kind::Else
+        | Kind::Loop
+        | Kind::Iterated
+        | Kind::And
+        | Kind::Or
+        | Kind::Not
+        | Kind::True
+        | Kind::False
+        | Kind::IntWord
+        | Kind::Bool
+        | Kind::TextWord => true,
         _ => false,
     }
 }
@@ -69,7 +100,8 @@ fn is_comparison(kind: Kind) -> bool
     ensures { result ≡ matches term.Comparison kind }
 {
     match kind {
-        Kind::Equal | Kind::NotEqual | Kind::Less | Kind::AtMost | Kind::Greater | Kind::AtLeast => true,
+        Kind::Equal | Kind::NotEqual | Kind::Less | Kind::AtMost | Kind::Greater | Kind::AtLeast =>
+            true,
         _ => false,
     }
 }

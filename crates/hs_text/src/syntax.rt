@@ -50,7 +50,10 @@ pub enum Simple {
         value: NameExpr,
     },
     /// The condition, and where the word `where` stands.
-    Where { word: Span, test: NameExpr },
+    Where {
+        word: Span,
+        test: NameExpr,
+    },
 }
 
 /// What stands in a rule.
@@ -74,19 +77,9 @@ pub struct Rule {
 #[derive(Debug, Drop)]
 pub enum Atom {
     /// An integer, with or without a minus sign before it.
-    Int {
-        minus: bool,
-        value: i64,
-        span: Span,
-    },
-    Text {
-        value: Text,
-        span: Span,
-    },
-    Bool {
-        value: bool,
-        span: Span,
-    },
+    Int { minus: bool, value: i64, span: Span },
+    Text { value: Text, span: Span },
+    Bool { value: bool, span: Span },
     /// A parameter or a variable of the unit.
     Name(Name),
 }

@@ -66,7 +66,14 @@ fn choice_items(kind: Kind) -> Option<Production>
     ensures { result ≡ choice_of part.Items kind }
 {
     match kind {
-        Kind::Preserve | Kind::Create | Kind::Delete | Kind::Forbid | Kind::Require | Kind::Multi | Kind::Set | Kind::Where => Some(Production::ItemMore),
+        Kind::Preserve
+        | Kind::Create
+        | Kind::Delete
+        | Kind::Forbid
+        | Kind::Require
+        | Kind::Multi
+        | Kind::Set
+        | Kind::Where => Some(Production::ItemMore),
         _ => None,
     }
 }
@@ -75,7 +82,9 @@ fn choice_item(kind: Kind) -> Option<Production>
     ensures { result ≡ choice_of part.Item kind }
 {
     match kind {
-        Kind::Preserve | Kind::Create | Kind::Delete | Kind::Set | Kind::Where => Some(Production::ItemSimple),
+        Kind::Preserve | Kind::Create | Kind::Delete | Kind::Set | Kind::Where => Some(
+            Production::ItemSimple,
+        ),
         Kind::Forbid => Some(Production::ItemForbid),
         Kind::Require => Some(Production::ItemRequire),
         Kind::Multi => Some(Production::ItemMulti),
@@ -96,7 +105,9 @@ fn choice_simples(kind: Kind) -> Option<Production>
     ensures { result ≡ choice_of part.Simples kind }
 {
     match kind {
-        Kind::Preserve | Kind::Create | Kind::Delete | Kind::Set | Kind::Where => Some(Production::SimpleMore),
+        Kind::Preserve | Kind::Create | Kind::Delete | Kind::Set | Kind::Where => Some(
+            Production::SimpleMore,
+        ),
         _ => None,
     }
 }
@@ -126,7 +137,14 @@ fn choice_expr(kind: Kind) -> Option<Production>
     ensures { result ≡ choice_of part.Expr kind }
 {
     match kind {
-        Kind::Name | Kind::Int | Kind::Text | Kind::Not | Kind::True | Kind::False | Kind::LeftParen | Kind::Minus => Some(Production::Expr),
+        Kind::Name
+        | Kind::Int
+        | Kind::Text
+        | Kind::Not
+        | Kind::True
+        | Kind::False
+        | Kind::LeftParen
+        | Kind::Minus => Some(Production::Expr),
         _ => None,
     }
 }
@@ -144,7 +162,14 @@ fn choice_conj(kind: Kind) -> Option<Production>
     ensures { result ≡ choice_of part.Conj kind }
 {
     match kind {
-        Kind::Name | Kind::Int | Kind::Text | Kind::Not | Kind::True | Kind::False | Kind::LeftParen | Kind::Minus => Some(Production::Conj),
+        Kind::Name
+        | Kind::Int
+        | Kind::Text
+        | Kind::Not
+        | Kind::True
+        | Kind::False
+        | Kind::LeftParen
+        | Kind::Minus => Some(Production::Conj),
         _ => None,
     }
 }
@@ -163,7 +188,13 @@ fn choice_neg(kind: Kind) -> Option<Production>
 {
     match kind {
         Kind::Not => Some(Production::NegNot),
-        Kind::Name | Kind::Int | Kind::Text | Kind::True | Kind::False | Kind::LeftParen | Kind::Minus => Some(Production::NegCmp),
+        Kind::Name
+        | Kind::Int
+        | Kind::Text
+        | Kind::True
+        | Kind::False
+        | Kind::LeftParen
+        | Kind::Minus => Some(Production::NegCmp),
         _ => None,
     }
 }
@@ -172,7 +203,13 @@ fn choice_cmp(kind: Kind) -> Option<Production>
     ensures { result ≡ choice_of part.Cmp kind }
 {
     match kind {
-        Kind::Name | Kind::Int | Kind::Text | Kind::True | Kind::False | Kind::LeftParen | Kind::Minus => Some(Production::Cmp),
+        Kind::Name
+        | Kind::Int
+        | Kind::Text
+        | Kind::True
+        | Kind::False
+        | Kind::LeftParen
+        | Kind::Minus => Some(Production::Cmp),
         _ => None,
     }
 }
@@ -181,7 +218,8 @@ fn choice_cmp_tail(kind: Kind) -> Option<Production>
     ensures { result ≡ choice_of part.CmpTail kind }
 {
     match kind {
-        Kind::Equal | Kind::NotEqual | Kind::Less | Kind::AtMost | Kind::Greater | Kind::AtLeast => Some(Production::CmpMore),
+        Kind::Equal | Kind::NotEqual | Kind::Less | Kind::AtMost | Kind::Greater | Kind::AtLeast =>
+            Some(Production::CmpMore),
         _ => None,
     }
 }
@@ -190,7 +228,13 @@ fn choice_sum(kind: Kind) -> Option<Production>
     ensures { result ≡ choice_of part.Sum kind }
 {
     match kind {
-        Kind::Name | Kind::Int | Kind::Text | Kind::True | Kind::False | Kind::LeftParen | Kind::Minus => Some(Production::Sum),
+        Kind::Name
+        | Kind::Int
+        | Kind::Text
+        | Kind::True
+        | Kind::False
+        | Kind::LeftParen
+        | Kind::Minus => Some(Production::Sum),
         _ => None,
     }
 }
@@ -208,7 +252,13 @@ fn choice_prod(kind: Kind) -> Option<Production>
     ensures { result ≡ choice_of part.Prod kind }
 {
     match kind {
-        Kind::Name | Kind::Int | Kind::Text | Kind::True | Kind::False | Kind::LeftParen | Kind::Minus => Some(Production::Prod),
+        Kind::Name
+        | Kind::Int
+        | Kind::Text
+        | Kind::True
+        | Kind::False
+        | Kind::LeftParen
+        | Kind::Minus => Some(Production::Prod),
         _ => None,
     }
 }
@@ -324,7 +374,9 @@ fn choice_value(kind: Kind) -> Option<Production>
     ensures { result ≡ choice_of part.Value kind }
 {
     match kind {
-        Kind::Name | Kind::Int | Kind::Text | Kind::True | Kind::False => Some(Production::ValueAtom),
+        Kind::Name | Kind::Int | Kind::Text | Kind::True | Kind::False => Some(
+            Production::ValueAtom,
+        ),
         Kind::Minus => Some(Production::ValueMinus),
         _ => None,
     }

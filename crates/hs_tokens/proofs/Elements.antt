@@ -1,9 +1,8 @@
-use Rattle.std.proofs.Common.{◌≡◌, ◌<◌, ◌≤◌, ◌+◌, ◌++◌, ◌==◌, ◌||◌, ◌&&◌, ◌⊎◌, inl, inr, ℕ, zero, suc, List, [], ◌∷◌, length, take, drop, min, Bool, true, false, Option, Some, None, unwrap_or, get_or, nat_eq, nat_le, cond, refl, sym, ap, subst, ◌∙◌, rules, pos, option_to_list, ◌^◌, lit<, arith, append_assoc, length-append}
+use Rattle.std.proofs.Common.{◌≡◌, ◌<◌, ◌≤◌, ◌+◌, ◌++◌, ◌==◌, ◌&&◌, ◌⊎◌, inl, inr, ℕ, suc, List, [], ◌∷◌, length, take, drop, min, Bool, true, false, Option, Some, None, get_or, nat_le, cond, refl, sym, ap, subst, ◌∙◌, pos, option_to_list, ◌^◌, lit<, arith, append_assoc, length-append}
 use Rattle.std.specs.List.{list_all, prefix_len}
 use Rattle.std.specs.Option.{is_some}
 use Rattle.std.proofs.lemmas.List.{take-append-drop, length-take-le, take_at, drop_at}
 use Rattle.std.proofs.lemmas.List.Sums.{prefix_len-le-length}
-use Rattle.std.proofs.lemmas.Grind.{common_steps}
 use Rattle.std.proofs.lemmas.Bool.Decides.{nat_tests, leb_tells}
 use Rattle.std.proofs.lemmas.Bool.{le-leb, leb-true}
 use Rattle.hs_tokens.specs.declared.token.Kind.{Kind}
@@ -12,10 +11,10 @@ use Rattle.hs_tokens.specs.declared.token.Token.{Token}
 use Rattle.hs_tokens.specs.declared.token.Place.{Place}
 use Rattle.hs_tokens.specs.declared.scan.Element.{Element}
 use Rattle.hs_tokens.specs.declared.scan.Element.TheVariants.{Skipped, Integer, Lexeme, Unknown}
-use Rattle.hs_tokens.specs.Tokens.{is_blank, is_letter, is_digit, is_word_part, is_word, is_integer, is_text, is_sign, is_lexeme, is_comment, is_in_line, ends_line, is_escaped, is_nil, closes, kind_in, kind_of, value_of, reserved, signs, after, decimal, token_at}
+use Rattle.hs_tokens.specs.Tokens.{is_blank, is_letter, is_digit, is_word_part, is_word, is_integer, is_text, is_sign, is_lexeme, is_comment, is_in_line, ends_line, closes, kind_in, kind_of, value_of, signs, after, decimal, token_at}
 use Rattle.hs_tokens.specs.Lexing.{IsLongest, IsStrange, Ending, Lexes, blank, comment, token, too_large, strange, TooLarge, Strange}
-use Rattle.hs_tokens.specs.Scanning.{closing_len, farther, word_rest_len, word_kind, text_element, sign_element, or_else, sign_at, slash_at, element_at, IsRead}
-use Rattle.hs_tokens.proofs.Longest.{is_plain, sign-short, letter-only, digit-only, quote-only, plain-only, not-plain, letter-lexeme, digit-lexeme, quote-lexeme, other-lexeme, run-is, run-longest, no-more, Closed, closing-closes, closes-closing, some-is}
+use Rattle.hs_tokens.specs.Scanning.{closing_len, word_rest_len, word_kind, text_element, sign_element, or_else, sign_at, slash_at, element_at, IsRead}
+use Rattle.hs_tokens.proofs.Longest.{is_plain, sign-short, letter-only, quote-only, not-plain, letter-lexeme, digit-lexeme, quote-lexeme, other-lexeme, run-is, run-longest, no-more, Closed, closing-closes, closes-closing, some-is}
 
 -- the characters as a front of this length and a rest
 pub record Cut (cs : List ℕ) (n : ℕ) (P : List ℕ → List ℕ → Type 0) : Type 0 where
@@ -68,17 +67,17 @@ word-element c cs n e h =
         longest = record {
           is = letter-lexeme c (take m cs) h ∙ is;
           longest = λ more others w l.
-            let word : (is_letter c && list_all is_word_part (take m cs ++ more) && nat_le (length (take m cs ++ more)) 63) ≡ true = sym (letter-lexeme c (take m cs ++ more) h) ∙ l in
-            let each : list_all is_word_part (take m cs ++ more) ≡ true = grind arith in
-            let bound : length (take m cs ++ more) ≤ 63 = leb-true (length (take m cs ++ more)) 63 (grind arith) in
-            run-longest is_word_part cs more others m within w each (word-bound (prefix_len is_word_part cs) (length (take m cs ++ more)) bound);
+              let word : (is_letter c && list_all is_word_part (take m cs ++ more) && nat_le (length (take m cs ++ more)) 63) ≡ true = sym (letter-lexeme c (take m cs ++ more) h) ∙ l in
+              let each : list_all is_word_part (take m cs ++ more) ≡ true = grind arith in
+              let bound : length (take m cs ++ more) ≤ 63 = leb-true (length (take m cs ++ more)) 63 (grind arith) in
+              run-longest is_word_part cs more others m within w each (word-bound (prefix_len is_word_part cs) (length (take m cs ++ more)) bound);
         };
         kind = rw (no_integer, no_text, is) (rw e refl);
         value = rw no_integer refl;
       };
     } where
-  word-bound : (p n : ℕ) → n ≤ 63 → n ≤ min p 63 ⊎ (p < n)
-  word-bound p n h = elim (leb_tells n p) [ inl t ↦ inl (omega arith) | inr t ↦ inr (omega arith) ]
+      word-bound : (p n : ℕ) → n ≤ 63 → n ≤ min p 63 ⊎ (p < n)
+      word-bound p n h = elim (leb_tells n p) [ inl t ↦ inl (omega arith) | inr t ↦ inr (omega arith) ]
 
 number-element : (c : ℕ) (cs : List ℕ) (n : ℕ) → n ≡ suc (prefix_len is_digit cs) → is_digit c ≡ true → Cut (c ∷ cs) n Number
 number-element c cs n e h =
@@ -97,15 +96,15 @@ number-element c cs n e h =
         longest = record {
           is = digit-lexeme c (take m cs) h ∙ is;
           longest = λ more others w l.
-            let digits : (is_digit c && list_all is_digit (take m cs ++ more)) ≡ true = sym (digit-lexeme c (take m cs ++ more) h) ∙ l in
-            let each : list_all is_digit (take m cs ++ more) ≡ true = grind arith in
-            run-longest is_digit cs more others m within w each (run-bound m (length (take m cs ++ more)));
+              let digits : (is_digit c && list_all is_digit (take m cs ++ more)) ≡ true = sym (digit-lexeme c (take m cs ++ more) h) ∙ l in
+              let each : list_all is_digit (take m cs ++ more) ≡ true = grind arith in
+              run-longest is_digit cs more others m within w each (run-bound m (length (take m cs ++ more)));
         };
         integer = is;
       };
     } where
-  run-bound : (m n : ℕ) → n ≤ m ⊎ (m < n)
-  run-bound m n = elim (leb_tells n m) [ inl t ↦ inl (omega arith) | inr t ↦ inr (omega arith) ]
+      run-bound : (m n : ℕ) → n ≤ m ⊎ (m < n)
+      run-bound m n = elim (leb_tells n m) [ inl t ↦ inl (omega arith) | inr t ↦ inr (omega arith) ]
 
 text-cut : (c : ℕ) (cs : List ℕ) (n : ℕ) → (c == 34) ≡ true → closing_len false cs ≡ Some n → Cut (c ∷ cs) (suc n) (Other kind.Text)
 unfolding Closed
@@ -125,12 +124,12 @@ text-cut c cs n h closed =
         longest = record {
           is = quote-lexeme c (take n cs) h ∙ is;
           longest = λ more others w l.
-            let text : ((c == 34) && closes false (take n cs ++ more)) ≡ true = sym (quote-lexeme c (take n cs ++ more) h) ∙ l in
-            let again : closes false (take n cs ++ more) ≡ true = grind arith in
-            let joined : (take n cs ++ more) ++ others ≡ cs = append_assoc (take n cs) more others ∙ ap (λ x. take n cs ++ x) (sym w) ∙ take-append-drop n cs in
-            let whole : closing_len false ((take n cs ++ more) ++ others) ≡ Some (length (take n cs ++ more)) = closes-closing false (take n cs ++ more) others again in
-            let same : n ≡ length (take n cs ++ more) = some-is n (length (take n cs ++ more)) (sym closed ∙ ap (closing_len false) (sym joined) ∙ whole) in
-            no-more more (omega (arith, length-append (take n cs) more));
+              let text : ((c == 34) && closes false (take n cs ++ more)) ≡ true = sym (quote-lexeme c (take n cs ++ more) h) ∙ l in
+              let again : closes false (take n cs ++ more) ≡ true = grind arith in
+              let joined : (take n cs ++ more) ++ others ≡ cs = append_assoc (take n cs) more others ∙ ap (λ x. take n cs ++ x) (sym w) ∙ take-append-drop n cs in
+              let whole : closing_len false ((take n cs ++ more) ++ others) ≡ Some (length (take n cs ++ more)) = closes-closing false (take n cs ++ more) others again in
+              let same : n ≡ length (take n cs ++ more) = some-is n (length (take n cs ++ more)) (sym closed ∙ ap (closing_len false) (sym joined) ∙ whole) in
+              no-more more (omega (arith, length-append (take n cs) more));
         };
         kind = rw (no_integer, is) refl;
         value = rw no_integer refl;
@@ -154,6 +153,7 @@ strange-text c cs h b d none = record {
   no-comment [] rest w = refl
   no-comment (x ∷ []) rest w = refl
   no-comment (x ∷ y ∷ xs) rest w = let e : c ≡ x = head-is c x cs (y ∷ (xs ++ rest)) w in let f : (x == 47) ≡ false = subst (λ (z : ℕ). (z == 47) ≡ false) e d in rw f refl
+
   no-token : (front rest : List ℕ) → c ∷ cs ≡ front ++ rest → is_lexeme front ≡ false
   no-token [] rest w = refl
   no-token (x ∷ xs) rest w =
@@ -162,9 +162,9 @@ strange-text c cs h b d none = record {
       let t : cs ≡ xs ++ rest = tail-is c x cs (xs ++ rest) w in
       quote-lexeme x xs g ∙ rw g (no-close (closes false xs) refl t)
     where
-    no-close : (q : Bool) → closes false xs ≡ q → cs ≡ xs ++ rest → closes false xs ≡ false
-    no-close false q t = q
-    no-close true q t = let s : closing_len false (xs ++ rest) ≡ Some (length xs) = closes-closing false xs rest q in let u : closing_len false (xs ++ rest) ≡ None = rw t at none in cc
+      no-close : (q : Bool) → closes false xs ≡ q → cs ≡ xs ++ rest → closes false xs ≡ false
+      no-close false q t = q
+      no-close true q t = let s : closing_len false (xs ++ rest) ≡ Some (length xs) = closes-closing false xs rest q in let u : closing_len false (xs ++ rest) ≡ None = rw t at none in cc
 
 strange-other : (c : ℕ) (cs : List ℕ) → is_letter c ≡ false → is_digit c ≡ false → (c == 34) ≡ false → is_blank c ≡ false
     → ((front rest : List ℕ) → c ∷ cs ≡ front ++ rest → is_comment front ≡ false)
@@ -183,7 +183,7 @@ strange-other c cs l d q b no_comment no_sign = record {
       let q' : (x == 34) ≡ false = subst (λ (z : ℕ). (z == 34) ≡ false) e q in
       other-lexeme x xs l' d' q' ∙ no_sign (x ∷ xs) rest w
 
-and-right : (a b : Bool) → (a && b) ≡ true → b ≡ true
+pub and-right : (a b : Bool) → (a && b) ≡ true → b ≡ true
 and-right true b e = e
 and-right false b e = cc
 
@@ -312,15 +312,16 @@ module _ (c : ℕ) (s : (c == 47) ≡ true) where
       let f : (y == 47) ≡ false = subst (λ (z : ℕ). (z == 47) ≡ false) e t in
       both-false (x == 47) (list_all is_in_line xs) (y == 47) f
     where
-    both-false : (a b t : Bool) → t ≡ false → (a && t && b) ≡ false
-    both-false true b t e = rw e refl
-    both-false false b t e = refl
+      both-false : (a b t : Bool) → t ≡ false → (a && t && b) ≡ false
+      both-false true b t e = rw e refl
+      both-false false b t e = refl
 
   slash-described : (cs : List ℕ) → Describes c cs (slash_at cs)
   slash-described [] = strange-other c [] slash-only.0 slash-only.1 slash-only.2 slash-only.3 no-comment-one (slash-sign [])
   slash-described (d ∷ cs) = step (d == 47) refl where
     two : 2 + prefix_len is_in_line cs ≡ suc (suc (prefix_len is_in_line cs))
     two = omega arith
+
     step : (t : Bool) → (d == 47) ≡ t → Describes c (d ∷ cs) (cond t (Skipped (2 + prefix_len is_in_line cs)) Unknown)
     step true t = rw two (slash-cut d cs t)
     step false t = strange-other c (d ∷ cs) slash-only.0 slash-only.1 slash-only.2 slash-only.3 (λ front rest w. no-comment-two d cs front rest t w) (slash-sign (d ∷ cs))
@@ -334,10 +335,13 @@ described c cs = step (is_blank c) refl (is_letter c) refl (is_digit c) refl (c 
   quoted : (o : Option ℕ) → closing_len false cs ≡ o → (c == 34) ≡ true → is_blank c ≡ false → (c == 47) ≡ false → Describes c cs (text_element o)
   quoted None e q b s = strange-text c cs q b s e
   quoted (Some n) e q b s = rw (one-plus n) (text-cut c cs n q e)
+
   quote-no-slash : (c == 34) ≡ true → (c == 47) ≡ false
   quote-no-slash h = grind (arith, nat_tests)
+
   separates : is_blank c ≡ true → Cut (c ∷ cs) 1 Separates
   separates b = record { front = c ∷ []; rest = cs; whole = refl; len = refl; some = omega arith; is = λ p ts e r. blank c cs b r }
+
   step : (b : Bool) → is_blank c ≡ b → (l : Bool) → is_letter c ≡ l → (d : Bool) → is_digit c ≡ d → (q : Bool) → (c == 34) ≡ q → (s : Bool) → (c == 47) ≡ s
       → Describes c cs (cond b (Skipped 1) (cond l (Lexeme (word_kind (take (1 + word_rest_len cs) (c ∷ cs))) (1 + word_rest_len cs)) (cond d (Integer (1 + prefix_len is_digit cs)) (cond q (text_element (closing_len false cs)) (cond s (slash_at cs) (sign_at c cs))))))
   step true b l l' d d' q q' s s' = separates b
@@ -357,9 +361,9 @@ cut-read p cs n found cut on = record {
   some = cut.some;
   within = omega (arith, ap length cut.whole, length-append cut.front cut.rest, cut.len);
   on = λ ts e l.
-    let a : take n cs ≡ cut.front = rw cut.whole (take_at cut.front cut.rest n cut.len) in
-    let b : drop n cs ≡ cut.rest = rw cut.whole (drop_at cut.front cut.rest n cut.len) in
-    on ts e (rw (a, b) at l);
+      let a : take n cs ≡ cut.front = rw cut.whole (take_at cut.front cut.rest n cut.len) in
+      let b : drop n cs ≡ cut.rest = rw cut.whole (drop_at cut.front cut.rest n cut.len) in
+      on ts e (rw (a, b) at l);
 }
 
 pub read-skipped : (p : Place) (c : ℕ) (cs : List ℕ) (n : ℕ) → element_at c cs ≡ Skipped n → IsRead p (c ∷ cs) n None

@@ -1,5 +1,4 @@
-use Rattle.std.proofs.Common.{◌≡◌, ◌<◌, ◌≤◌, ◌+◌, ◌*◌, ◌-◌, ◌++◌, ℕ, List, [], ◌∷◌, length, get_or, drop, Bool, true, false, Option, Some, None, nat_eq, cond, refl, sym, ◌∙◌, rules, arith}
-use Rattle.std.proofs.lemmas.Grind.{common_steps}
+use Rattle.std.proofs.Common.{◌≡◌, ◌≤◌, ◌+◌, ◌*◌, ◌-◌, ◌++◌, ℕ, List, [], ◌∷◌, Bool, true, false, Some, None, nat_eq, cond, refl, arith}
 use Rattle.std.specs.Cmp.Lexicographic.{pointwise}
 use Rattle.hs_tokens.specs.declared.token.Kind.{Kind}
 use Rattle.hs_tokens.specs.Tokens.{kind_in, decimal_from}

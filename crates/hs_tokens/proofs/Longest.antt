@@ -1,19 +1,15 @@
-use Rattle.std.proofs.Common.{◌≡◌, ◌<◌, ◌≤◌, ◌+◌, ◌++◌, ◌==◌, ◌||◌, ◌&&◌, ◌⊎◌, inl, inr, ℕ, zero, suc, List, [], ◌∷◌, length, take, drop, min, Bool, true, false, Option, Some, None, unwrap_or, nat_eq, nat_le, cond, refl, sym, ap, subst, ◌∙◌, rules, arith, append_assoc, length-append}
+use Rattle.std.proofs.Common.{◌≡◌, ◌<◌, ◌≤◌, ◌+◌, ◌++◌, ◌==◌, ◌||◌, ◌&&◌, ◌⊎◌, inl, inr, ℕ, zero, suc, List, [], ◌∷◌, length, take, drop, Bool, true, false, Option, Some, None, nat_eq, nat_le, cond, refl, sym, ap, ◌∙◌, arith, append_assoc, length-append}
 use Rattle.std.specs.List.{list_all, prefix_len}
 use Rattle.std.specs.Option.{is_some}
 use Rattle.std.proofs.lemmas.List.{take-append-drop, length-take-le}
-use Rattle.std.proofs.lemmas.List.Folds.{list_all-append}
 use Rattle.std.proofs.lemmas.List.Sums.{prefix_len-le-length}
 use Rattle.std.proofs.lemmas.Grind.{common_steps}
 use Rattle.std.proofs.lemmas.Bool.Decides.{nat_tests}
-use Rattle.std.proofs.lemmas.Bool.{le-leb, leb-true}
 use Rattle.std.specs.Cmp.Lexicographic.{pointwise}
 use Rattle.hs_expr.specs.Equality.{lists_exact, nat_exact}
 use Rattle.hs_tokens.specs.declared.token.Kind.{Kind}
-use Rattle.hs_tokens.specs.declared.token.Kind.TheVariants as kind
-use Rattle.hs_tokens.specs.Tokens.{is_blank, is_letter, is_digit, is_word_part, is_word, is_integer, is_text, is_sign, is_lexeme, is_comment, is_in_line, ends_line, is_escaped, is_nil, closes, kind_in, kind_of, value_of, reserved, signs}
-use Rattle.hs_tokens.specs.Lexing.{IsLongest, IsStrange}
-use Rattle.hs_tokens.specs.Scanning.{closing_len, farther, word_rest_len, word_kind}
+use Rattle.hs_tokens.specs.Tokens.{is_blank, is_letter, is_digit, is_word, is_integer, is_text, is_sign, is_lexeme, is_escaped, is_nil, closes, kind_in, signs}
+use Rattle.hs_tokens.specs.Scanning.{closing_len, farther}
 
 -- what each spelling of a table has, each found one has
 pub found : (p : List ℕ → Bool) (table : List (List ℕ × Kind)) → list_all (λ e. p e.0) table ≡ true → (cs : List ℕ) (k : Kind) → kind_in table cs ≡ Some k → p cs ≡ true
@@ -144,11 +140,11 @@ closing-closes true (c ∷ cs) n h = step (is_escaped c) refl h (λ q. farther-s
 closing-closes false (c ∷ cs) n h =
     step (c == 34) refl (c == 92) refl (nat_le 32 c) refl h (λ q. farther-some true cs (closing_len true cs) n refl q (closing-closes true cs)) (λ q. farther-some false cs (closing_len false cs) n refl q (closing-closes false cs))
   where
-  step : (q : Bool) → (c == 34) ≡ q → (b : Bool) → (c == 92) ≡ b → (l : Bool) → nat_le 32 c ≡ l → cond q (Some 1) (cond b (farther 1 (closing_len true cs)) (cond l (farther 1 (closing_len false cs)) None)) ≡ Some n → (farther 1 (closing_len true cs) ≡ Some n → (m : ℕ) × (n ≡ suc m) × Closed true cs m) → (farther 1 (closing_len false cs) ≡ Some n → (m : ℕ) × (n ≡ suc m) × Closed false cs m) → Closed false (c ∷ cs) n
-  step true q b y l z h escape more = let e : n ≡ 1 = sym (some-is 1 n h) in rw e (rw q refl, omega arith)
-  step false q true y l z h escape more = let r = escape h in rw r.1 (rw (q, y) r.2.0, omega (arith, r.2.1))
-  step false q false y true z h escape more = let r = more h in rw r.1 (rw (q, y, z) r.2.0, omega (arith, r.2.1))
-  step false q false y false z h escape more = cc
+    step : (q : Bool) → (c == 34) ≡ q → (b : Bool) → (c == 92) ≡ b → (l : Bool) → nat_le 32 c ≡ l → cond q (Some 1) (cond b (farther 1 (closing_len true cs)) (cond l (farther 1 (closing_len false cs)) None)) ≡ Some n → (farther 1 (closing_len true cs) ≡ Some n → (m : ℕ) × (n ≡ suc m) × Closed true cs m) → (farther 1 (closing_len false cs) ≡ Some n → (m : ℕ) × (n ≡ suc m) × Closed false cs m) → Closed false (c ∷ cs) n
+    step true q b y l z h escape more = let e : n ≡ 1 = sym (some-is 1 n h) in rw e (rw q refl, omega arith)
+    step false q true y l z h escape more = let r = escape h in rw r.1 (rw (q, y) r.2.0, omega (arith, r.2.1))
+    step false q false y true z h escape more = let r = more h in rw r.1 (rw (q, y, z) r.2.0, omega (arith, r.2.1))
+    step false q false y false z h escape more = cc
 
 nil-is : (xs : List ℕ) → is_nil xs ≡ true → xs ≡ []
 nil-is [] h = refl
@@ -163,8 +159,8 @@ closes-closing true (c ∷ xs) ys h =
 closes-closing false (c ∷ xs) ys h =
     step (c == 34) refl (c == 92) refl (nat_le 32 c) refl h (closes-closing true xs ys) (closes-closing false xs ys)
   where
-  step : (q : Bool) → (c == 34) ≡ q → (b : Bool) → (c == 92) ≡ b → (l : Bool) → nat_le 32 c ≡ l → cond q (is_nil xs) (cond b (closes true xs) (l && closes false xs)) ≡ true → (closes true xs ≡ true → closing_len true (xs ++ ys) ≡ Some (length xs)) → (closes false xs ≡ true → closing_len false (xs ++ ys) ≡ Some (length xs)) → closing_len false ((c ∷ xs) ++ ys) ≡ Some (length (c ∷ xs))
-  step true q b y l z h escape more = let e : xs ≡ [] = nil-is xs h in rw (q, e) refl
-  step false q true y l z h escape more = rw (q, y, escape h) (ap (λ k. Some k) (omega arith))
-  step false q false y true z h escape more = rw (q, y, z, more h) (ap (λ k. Some k) (omega arith))
-  step false q false y false z h escape more = cc
+    step : (q : Bool) → (c == 34) ≡ q → (b : Bool) → (c == 92) ≡ b → (l : Bool) → nat_le 32 c ≡ l → cond q (is_nil xs) (cond b (closes true xs) (l && closes false xs)) ≡ true → (closes true xs ≡ true → closing_len true (xs ++ ys) ≡ Some (length xs)) → (closes false xs ≡ true → closing_len false (xs ++ ys) ≡ Some (length xs)) → closing_len false ((c ∷ xs) ++ ys) ≡ Some (length (c ∷ xs))
+    step true q b y l z h escape more = let e : xs ≡ [] = nil-is xs h in rw (q, e) refl
+    step false q true y l z h escape more = rw (q, y, escape h) (ap (λ k. Some k) (omega arith))
+    step false q false y true z h escape more = rw (q, y, z, more h) (ap (λ k. Some k) (omega arith))
+    step false q false y false z h escape more = cc

@@ -1,5 +1,5 @@
-use Rattle.std.proofs.Common.{◌≡◌, ◌<◌, ◌≤◌, ◌+◌, ◌-◌, ◌++◌, ◌==◌, ℕ, zero, suc, List, [], ◌∷◌, length, take, drop, Bool, true, false, Option, cond, refl, sym, ap, subst, ◌∙◌, rules, arith, append_assoc, length-append, option_to_list}
-use Rattle.std.proofs.lemmas.List.{take-append-drop, length-take-le, take_at, append-nil, length-drop, drop-drop}
+use Rattle.std.proofs.Common.{◌≡◌, ◌<◌, ◌≤◌, ◌+◌, ◌-◌, ◌++◌, ◌==◌, ℕ, List, [], ◌∷◌, length, take, drop, Bool, true, false, Option, cond, refl, sym, ap, subst, ◌∙◌, arith, append_assoc, option_to_list}
+use Rattle.std.proofs.lemmas.List.{length-take-le, append-nil, length-drop, drop-drop}
 use Rattle.std.proofs.Math.Seq.{take-add}
 use Rattle.hs_tokens.specs.declared.token.Token.{Token}
 use Rattle.hs_tokens.specs.declared.token.Place.{Place}
@@ -46,26 +46,28 @@ read-on chars rest p q tokens more n found so_far is_rest read is_q is_more =
     let moves : Moves p q (length (take n rest)) = rw is_q (after-moves p (take n rest)) in
     let index : q.index ≡ p.index + n = moves.index ∙ ap (λ k. p.index + k) taken in
     let front : take q.index chars ≡ take p.index chars ++ take n rest = rw (index, is_rest) (take-add p.index n chars) in
-    let behind : drop q.index chars ≡ drop n rest = rw (index, is_rest) (sym (drop-drop n p.index chars)) in
-    (record {
-      within = omega (arith, so_far.within, read.within);
-      line = omega (arith, so_far.line, moves.line);
-      column = omega (arith, so_far.column, moves.column);
-      here = is_q ∙ ap (λ (x : Place). after x (take n rest)) so_far.here ∙ sym (ap (after first_place) front ∙ after-append first_place (take p.index chars) (take n rest));
-      onward = λ ts e l.
-        let a : Lexes (after p (take n rest)) (drop n rest) ts e = subst (λ (x : Place). Lexes x (drop n rest) ts e) is_q (subst (λ x. Lexes q x ts e) behind l) in
-        let b : Lexes p (drop p.index chars) (option_to_list found ++ ts) e = subst (λ x. Lexes p x (option_to_list found ++ ts) e) is_rest (read.on ts e a) in
-        subst (λ x. Lexes first_place chars x e) (sym (ap (λ x. x ++ ts) is_more ∙ append_assoc tokens (option_to_list found) ts)) (so_far.onward (option_to_list found ++ ts) e b);
-    }, omega (arith, read.some))
+    let behind : drop q.index chars ≡ drop n rest = rw (index, is_rest) (sym (drop-drop n p.index chars)) in (
+      record {
+        within = omega (arith, so_far.within, read.within);
+        line = omega (arith, so_far.line, moves.line);
+        column = omega (arith, so_far.column, moves.column);
+        here = is_q ∙ ap (λ (x : Place). after x (take n rest)) so_far.here ∙ sym (ap (after first_place) front ∙ after-append first_place (take p.index chars) (take n rest));
+        onward = λ ts e l.
+            let a : Lexes (after p (take n rest)) (drop n rest) ts e = subst (λ (x : Place). Lexes x (drop n rest) ts e) is_q (subst (λ x. Lexes q x ts e) behind l) in
+            let b : Lexes p (drop p.index chars) (option_to_list found ++ ts) e = subst (λ x. Lexes p x (option_to_list found ++ ts) e) is_rest (read.on ts e a) in
+            subst (λ x. Lexes first_place chars x e) (sym (ap (λ x. x ++ ts) is_more ∙ append_assoc tokens (option_to_list found) ts)) (so_far.onward (option_to_list found ++ ts) e b);
+      },
+      omega (arith, read.some),
+    )
 
 pub read-whole : (chars : List ℕ) (p : Place) (tokens : List Token) → ReadSoFar chars p tokens → length chars ≤ p.index → Lexes first_place chars tokens Whole
 read-whole chars p tokens so_far h =
     let e : drop p.index chars ≡ [] = no-items (drop p.index chars) (omega (arith, length-drop p.index chars)) in
     rw append-nil at (so_far.onward [] Whole (rw e nothing))
   where
-  no-items : (xs : List ℕ) → length xs ≡ 0 → xs ≡ []
-  no-items [] e = refl
-  no-items (x ∷ xs) e = absurd (omega arith)
+    no-items : (xs : List ℕ) → length xs ≡ 0 → xs ≡ []
+    no-items [] e = refl
+    no-items (x ∷ xs) e = absurd (omega arith)
 
 pub read-none : (chars : List ℕ) (p : Place) (tokens : List Token) (e : Ending) → ReadSoFar chars p tokens → Lexes p (drop p.index chars) [] e → Lexes first_place chars tokens e
 read-none chars p tokens e so_far l = rw append-nil at (so_far.onward [] e l)

@@ -1,4 +1,4 @@
-use Rattle.std.specs.Prelude.{ℕ, ◌+◌, ◌<◌, ◌≤◌, ◌≡◌, ◌++◌, drop, option_to_list, ◌==◌, Bool, true, false, nat_le, if◌then◌else◌, List, [], ◌∷◌, take, length, Option, Some, None, unwrap_or, min}
+use Rattle.std.specs.Prelude.{ℕ, ◌+◌, ◌<◌, ◌≤◌, ◌++◌, drop, option_to_list, ◌==◌, Bool, true, false, nat_le, if◌then◌else◌, List, [], ◌∷◌, take, length, Option, Some, None, unwrap_or, min}
 use Rattle.std.specs.List.{prefix_len}
 use Rattle.hs_tokens.specs.declared.token.Kind.{Kind}
 use Rattle.hs_tokens.specs.declared.token.Kind.TheVariants as kind

@@ -1,5 +1,4 @@
-use Rattle.std.proofs.Common.{◌≡◌, sym, ◌∙◌, subst, ℕ, List, IfOk, IfErr}
-use Rattle.std.specs.Str.{chars}
+use Rattle.std.proofs.Common.{◌∙◌, subst, ℕ, List, IfOk, IfErr}
 use Rattle.hs_text.specs.Parsing.{IsSyntaxOf, IsTextFault}
 use Rattle.hs_text.proofs.parse.Goals as goal
 

@@ -1,4 +1,4 @@
-use Rattle.std.proofs.Common.{◌≡◌, ◌∷◌, [], refl, sym, ap, ◌∙◌}
+use Rattle.std.proofs.Common.{◌∷◌, sym, ap, ◌∙◌}
 use Rattle.hs_text.proofs.Arms.{end-act-less, end-act, end-sub-less, end-sub, end-cut-off, end-whole}
 use Rattle.hs_text.proofs.parser.finish.Goals as goal
 

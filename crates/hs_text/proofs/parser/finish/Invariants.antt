@@ -1,4 +1,4 @@
-use Rattle.std.proofs.Common.{ℕ, ◌≡◌, List, [], ◌↔◌}
+use Rattle.std.proofs.Common.{[], ◌↔◌}
 use Rattle.hs_text.specs.declared.builder.Builder.{Builder}
 use Rattle.hs_text.specs.Machine.{Derives}
 use Rattle.hs_text.proofs.Steps.{end_measure}

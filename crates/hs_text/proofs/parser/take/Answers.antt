@@ -1,5 +1,4 @@
-use Rattle.std.proofs.Common.{◌≡◌, ◌∷◌, [], refl, sym, ap, ◌∙◌}
-use Rattle.hs_text.specs.declared.grammar.Symbol.TheVariants.{Skip, Keep, Sub, Act}
+use Rattle.std.proofs.Common.{◌∷◌, sym, ap, ◌∙◌}
 use Rattle.hs_text.proofs.Arms.{skip-taken, keep-taken, act-less, act-fine, act-texts, sub-less, sub-fine, sub-texts, none-refused}
 use Rattle.hs_text.proofs.parser.take.Goals as goal
 
@@ -20,6 +19,7 @@ steps-preserved c = record {
 
 pub returns-in-None-clause-refused : goal.returns-in-None-clause-refused
 returns-in-None-clause-refused c = none-refused c.args.source.now c.args.stack.now c.args.builder.now c.args.token c.steps.stack c.steps.builder c.steps.invariant.fine c.steps.invariant.same_texts c.in-Sub.part c.pop.new.self (c.in-Some.ensures ∙ ap (λ s. s ∷ c.pop.new.self) c.in-Sub.is) (sym c.in-None.ensures)
+
 pub steps-smaller-in-Continue-branch-2 : goal.steps-smaller-in-Continue-branch-2
 steps-smaller-in-Continue-branch-2 c = act-less c.args.source.now c.args.stack.now c.args.builder.now c.args.token c.steps.stack c.steps.builder c.steps.invariant.fine c.steps.invariant.same_texts c.in-Act.action c.pop.new.self (c.in-Some.ensures ∙ ap (λ s. s ∷ c.pop.new.self) c.in-Act.is)
 
@@ -28,4 +28,3 @@ steps-preserved-in-Continue-branch-2 c = record {
   fine = act-fine c.args.source.now c.args.stack.now c.args.builder.now c.args.token c.steps.stack c.steps.builder c.steps.invariant.fine c.steps.invariant.same_texts c.in-Act.action c.pop.new.self (c.in-Some.ensures ∙ ap (λ s. s ∷ c.pop.new.self) c.in-Act.is);
   same_texts = act-texts c.args.source.now c.args.stack.now c.args.builder.now c.args.token c.steps.stack c.steps.builder c.steps.invariant.fine c.steps.invariant.same_texts c.in-Act.action c.pop.new.self c.act.new.self (c.in-Some.ensures ∙ ap (λ s. s ∷ c.pop.new.self) c.in-Act.is) c.in_ok-act-in-Act.ensures;
 }
-

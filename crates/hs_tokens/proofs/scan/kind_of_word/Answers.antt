@@ -1,7 +1,7 @@
-use Rattle.std.proofs.Common.{ap, sym, ◌∙◌, unwrap_or, Option, ◌++◌, ◌≡◌}
+use Rattle.std.proofs.Common.{ap, sym, ◌∙◌, unwrap_or, Option, ◌++◌}
 use Rattle.hs_tokens.specs.declared.token.Kind.{Kind}
 use Rattle.hs_tokens.specs.declared.token.Kind.TheVariants as kind
-use Rattle.hs_tokens.specs.Tokens.{kind_in, definition_words, item_words, body_words, value_words}
+use Rattle.hs_tokens.specs.Tokens.{definition_words, item_words, body_words, value_words}
 use Rattle.hs_tokens.proofs.Letters.{kind_in-append_some, kind_in-append_none}
 use Rattle.hs_tokens.proofs.scan.kind_of_word.Goals as goal
 

@@ -1,4 +1,4 @@
-use Rattle.std.proofs.Common.{◌≡◌, ◌≤◌, ◌<◌, ◌∷◌, length, drop, take, refl, sym, ap, subst, ◌∙◌, arith, Some, ℤ, ◌+◌, pos, w64, to_z, of_z}
+use Rattle.std.proofs.Common.{◌≡◌, take, refl, sym, ap, subst, ◌∙◌, arith, Some, ℤ, ◌+◌, pos, w64, to_z, of_z}
 use Rattle.std.proofs.lemmas.Int.{to_z_pos}
 use Rattle.hs_tokens.specs.Tokens.{decimal}
 use Rattle.hs_tokens.specs.declared.token.Kind.TheVariants as kind

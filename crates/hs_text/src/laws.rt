@@ -1,0 +1,24 @@
+//! What the definitions of the grammar say together.
+
+ghost use Rattle.std.specs.Prelude.{◌≡◌, ◌⊎◌, ℕ, List};
+ghost use Rattle.hs_tokens.specs.declared.token.Token.{Token};
+ghost use Rattle.hs_text.specs.declared.syntax.Definition.{Definition};
+ghost use Rattle.hs_text.specs.Grammar.{IsText};
+ghost use Rattle.hs_text.specs.Parsing.{IsFirstWrong, IsUnfinished};
+
+/// Tokens are the text of one syntax at most.
+pub fn one_syntax()
+    ensures { (source : List ℕ) (ts : List Token) (ds es : List Definition) → IsText source ts ds → IsText source ts es → ds ≡ es }
+{}
+
+/// Tokens are a text, or the unfinished beginning of one, or have a first wrong token.
+pub fn each_is_judged()
+    ensures { (source : List ℕ) (ts : List Token) → ((ds : List Definition) × IsText source ts ds) ⊎ IsUnfinished source ts ⊎ ((t : Token) × IsFirstWrong source ts t) }
+{}
+
+/// No two of these hold of the same tokens.
+pub fn judged_once()
+    ensures text_ends { (source : List ℕ) (ts : List Token) (ds : List Definition) → IsText source ts ds → IsUnfinished source ts → ⊥ }
+    ensures text_is_right { (source : List ℕ) (ts : List Token) (ds : List Definition) (t : Token) → IsText source ts ds → IsFirstWrong source ts t → ⊥ }
+    ensures unfinished_is_right { (source : List ℕ) (ts : List Token) (t : Token) → IsUnfinished source ts → IsFirstWrong source ts t → ⊥ }
+{}
