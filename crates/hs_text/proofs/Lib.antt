@@ -1,4 +1,5 @@
 pub mod Stacks
+pub mod Numbering
 pub mod Tables
 pub mod Steps
 pub mod Arms

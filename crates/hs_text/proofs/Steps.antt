@@ -13,7 +13,8 @@ use Rattle.hs_text.specs.declared.builder.Builder.{Builder}
 use Rattle.hs_text.specs.Terms.{matches}
 use Rattle.hs_text.specs.Building.{held_then, built}
 use Rattle.hs_text.specs.Machine.{Derives, done, skip, keep, act, by, part_of, right, choice_of, empty_of, or_else, production_of, begins, follows, Fine}
-use Rattle.hs_text.proofs.Tables.{and-left, and-right, implies, empties, begins-chosen, empties-chosen, apart, level, lower, choice-part, choice-lower, level-bounds, empty-part, is_short, empty-short, begins_then, kept, keeps}
+use Rattle.hs_text.proofs.Numbering.{and-left, and-right}
+use Rattle.hs_text.proofs.Tables.{implies, empties, begins-chosen, empties-chosen, apart, level, lower, choice-part, choice-lower, level-bounds, empty-part, is_short, empty-short, begins_then, kept, keeps}
 
 -- WHAT A TEXT BEGINS WITH
 

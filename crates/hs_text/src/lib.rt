@@ -1,4 +1,9 @@
-//! Rule and unit text as syntax.
+//! Rule and unit text as syntax: [`parse`] gives the syntax of a text, or its first fault.
+//!
+//! The tokens come from hs_tokens. They are read by a table of productions over a stack of what the
+//! rest of the text is made of ([`grammar`], [`table`], [`expand`], [`parser`]), and syntax is made
+//! as they are taken ([`builder`], [`words`]); so no text, however deep, overruns the machine's
+//! stack. What a text is say the definitions in `specs/Grammar.antt`.
 #![tactic(auto)]
 
 ghost use Rattle.std.specs.Prelude.{◌≡◌, IfOk, IfErr};

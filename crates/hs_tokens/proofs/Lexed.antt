@@ -6,8 +6,8 @@ use Rattle.hs_tokens.specs.declared.token.Token.{Token}
 use Rattle.hs_tokens.specs.declared.token.Place.{Place}
 use Rattle.hs_tokens.specs.declared.scan.Element.{Element}
 use Rattle.hs_tokens.specs.declared.scan.Element.TheVariants.{Skipped, Integer, Lexeme, Unknown}
-use Rattle.hs_tokens.specs.Tokens.{is_blank, is_letter, is_digit, is_lexeme, is_comment, is_in_line, ends_line, after, decimal}
-use Rattle.hs_tokens.specs.Lexing.{IsLongest, Ending, Whole, TooLarge, Strange, Lexes, nothing}
+use Rattle.hs_tokens.specs.Tokens.{is_blank, is_letter, is_digit, is_lexeme, is_comment, is_in_line, ends_line, value_of, after, decimal, token_at}
+use Rattle.hs_tokens.specs.Lexing.{IsLongest, IsStrange, Ending, Whole, TooLarge, Strange, Lexes, nothing, blank, comment, token, too_large, strange}
 use Rattle.hs_tokens.specs.Scanning.{IsRead, element_at}
 use Rattle.hs_tokens.proofs.Longest.{is_plain, not-plain, other-lexeme}
 use Rattle.hs_tokens.proofs.Elements.{and-right, read-skipped, read-number, read-other, read-large, read-strange}
@@ -132,3 +132,79 @@ comment-token : (f r g s : List ℕ) → f ++ r ≡ g ++ s → is_comment f ≡ 
 comment-token [] r g s w c l = cc
 comment-token (x ∷ f) r [] s w c l = cc
 comment-token (x ∷ f) r (y ∷ g) s w c l = let e : x ≡ y = cc in cc (slash-lexeme y g (subst (λ (z : ℕ). (z == 47) ≡ true) e (slash-first x f c)))
+
+empty-lexeme : (f r : List ℕ) → [] ≡ f ++ r → is_lexeme f ≡ true → ⊥
+empty-lexeme [] r w l = cc
+empty-lexeme (x ∷ f) r w l = cc
+
+empty-comment : (f r : List ℕ) → [] ≡ f ++ r → is_comment f ≡ true → ⊥
+empty-comment [] r w l = cc
+empty-comment (x ∷ f) r w l = cc
+
+abbrev Same : List Token → Ending → List Token → Ending → Type 0
+Same ts e us g = (ts ≡ us) × (e ≡ g)
+
+at-end : {p : Place} {ds : List ℕ} {us : List Token} {g : Ending} → [] ≡ ds → Lexes p ds us g → Same [] Whole us g
+at-end w nothing = (refl, refl)
+at-end w (blank d ds b k) = cc
+at-end w (comment f r v c l k) = absurd (empty-comment f r (w ∙ v) c)
+at-end w (token f r v l s k) = absurd (empty-lexeme f r (w ∙ v) l.is)
+at-end w (too_large f r v l s) = absurd (empty-lexeme f r (w ∙ v) l.is)
+at-end w (strange d ds s) = cc
+
+first-of : (c d : ℕ) (cs ds : List ℕ) → c ∷ cs ≡ d ∷ ds → c ≡ d
+first-of c d cs ds w = cc
+
+rest-of : (c d : ℕ) (cs ds : List ℕ) → c ∷ cs ≡ d ∷ ds → cs ≡ ds
+rest-of c d cs ds w = cc
+
+at-blank : {p : Place} {ds : List ℕ} {us : List Token} {g : Ending} (c : ℕ) (cs : List ℕ) (ts : List Token) (e : Ending) → is_blank c ≡ true → ((vs : List Token) (h : Ending) → Lexes (after p (c ∷ [])) cs vs h → Same ts e vs h) → c ∷ cs ≡ ds → Lexes p ds us g → Same ts e us g
+at-blank c cs ts e b next w nothing = cc
+at-blank {p} {us = us} {g = g} c cs ts e b next w (blank d ds b2 k) = next us g (subst (λ (x : ℕ). Lexes (after p (x ∷ [])) cs us g) (sym (first-of c d cs ds w)) (subst (λ x. Lexes (after p (d ∷ [])) x us g) (sym (rest-of c d cs ds w)) k))
+at-blank c cs ts e b next w (comment f r v c2 l k) = absurd (blank-comment c cs f r (w ∙ v) b c2)
+at-blank c cs ts e b next w (token f r v l s k) = absurd (blank-front c cs f r (w ∙ v) b l.is)
+at-blank c cs ts e b next w (too_large f r v l s) = absurd (blank-front c cs f r (w ∙ v) b l.is)
+at-blank c cs ts e b next w (strange d ds s) = let n : is_blank c ≡ false = subst (λ (x : ℕ). is_blank x ≡ false) (sym (first-of c d cs ds w)) s.no_blank in absurd (cc)
+
+at-comment : {p : Place} {ds : List ℕ} {us : List Token} {g : Ending} (f r : List ℕ) (ts : List Token) (e : Ending) → is_comment f ≡ true → ends_line r ≡ true → ((vs : List Token) (h : Ending) → Lexes (after p f) r vs h → Same ts e vs h) → f ++ r ≡ ds → Lexes p ds us g → Same ts e us g
+at-comment f r ts e c l next w nothing = absurd (empty-comment f r (sym w) c)
+at-comment f r ts e c l next w (blank d ds b k) = absurd (blank-comment d ds f r (sym w) b c)
+at-comment {p} {us = us} {g = g} f r ts e c l next w (comment f2 r2 v c2 l2 k) = let o = comment-once f r f2 r2 (w ∙ v) c l c2 l2 in next us g (subst (λ x. Lexes (after p x) r us g) (sym o.0) (subst (λ x. Lexes (after p f2) x us g) (sym o.1) k))
+at-comment f r ts e c l next w (token f2 r2 v l2 s k) = absurd (comment-token f r f2 r2 (w ∙ v) c l2.is)
+at-comment f r ts e c l next w (too_large f2 r2 v l2 s) = absurd (comment-token f r f2 r2 (w ∙ v) c l2.is)
+at-comment f r ts e c l next w (strange d ds s) = let n : is_comment f ≡ false = s.no_comment f r (sym w) in absurd (cc)
+
+at-token : {p : Place} {ds : List ℕ} {us : List Token} {g : Ending} (f r : List ℕ) (ts : List Token) (e : Ending) → IsLongest f r → value_of f < 2 ^ 63 → ((vs : List Token) (h : Ending) → Lexes (after p f) r vs h → Same ts e vs h) → f ++ r ≡ ds → Lexes p ds us g → Same (token_at p f ∷ ts) e us g
+at-token f r ts e l s next w nothing = absurd (empty-lexeme f r (sym w) l.is)
+at-token f r ts e l s next w (blank d ds b k) = absurd (blank-front d ds f r (sym w) b l.is)
+at-token f r ts e l s next w (comment f2 r2 v c2 l2 k) = absurd (comment-token f2 r2 f r (sym (w ∙ v)) c2 l.is)
+at-token {p} {g = g} f r ts e l s next w (token {ts = vs} f2 r2 v l2 s2 k) =
+    let o = longest-once f r f2 r2 (w ∙ v) l l2 in
+    let n : Same ts e vs g = next vs g (subst (λ x. Lexes (after p x) r vs g) (sym o.0) (subst (λ x. Lexes (after p f2) x vs g) (sym o.1) k)) in
+    (ap (λ x. token_at p x ∷ ts) o.0 ∙ ap (λ x. token_at p f2 ∷ x) n.0, n.1)
+at-token f r ts e l s next w (too_large f2 r2 v l2 s2) = let o = longest-once f r f2 r2 (w ∙ v) l l2 in let n : 2 ^ 63 ≤ value_of f = subst (λ x. 2 ^ 63 ≤ value_of x) (sym o.0) s2 in absurd (omega (arith, n, s))
+at-token f r ts e l s next w (strange d ds t) = let n : is_lexeme f ≡ false = t.no_token f r (sym w) in absurd (cc (l.is))
+
+at-large : {p : Place} {ds : List ℕ} {us : List Token} {g : Ending} (f r : List ℕ) → IsLongest f r → 2 ^ 63 ≤ value_of f → f ++ r ≡ ds → Lexes p ds us g → Same [] (TooLarge p) us g
+at-large f r l s w nothing = absurd (empty-lexeme f r (sym w) l.is)
+at-large f r l s w (blank d ds b k) = absurd (blank-front d ds f r (sym w) b l.is)
+at-large f r l s w (comment f2 r2 v c2 l2 k) = absurd (comment-token f2 r2 f r (sym (w ∙ v)) c2 l.is)
+at-large f r l s w (token f2 r2 v l2 s2 k) = let o = longest-once f r f2 r2 (w ∙ v) l l2 in let n : value_of f < 2 ^ 63 = subst (λ x. value_of x < 2 ^ 63) (sym o.0) s2 in absurd (omega (arith, n, s))
+at-large f r l s w (too_large f2 r2 v l2 s2) = (refl, refl)
+at-large f r l s w (strange d ds t) = let n : is_lexeme f ≡ false = t.no_token f r (sym w) in absurd (cc (l.is))
+
+at-strange : {p : Place} {ds : List ℕ} {us : List Token} {g : Ending} (c : ℕ) (cs : List ℕ) → IsStrange c cs → c ∷ cs ≡ ds → Lexes p ds us g → Same [] (Strange p) us g
+at-strange c cs t w nothing = cc
+at-strange c cs t w (blank d ds b k) = let n : is_blank c ≡ true = subst (λ (x : ℕ). is_blank x ≡ true) (sym (first-of c d cs ds w)) b in absurd (cc (t.no_blank))
+at-strange c cs t w (comment f2 r2 v c2 l2 k) = let n : is_comment f2 ≡ false = t.no_comment f2 r2 (w ∙ v) in absurd (cc)
+at-strange c cs t w (token f2 r2 v l2 s2 k) = let n : is_lexeme f2 ≡ false = t.no_token f2 r2 (w ∙ v) in absurd (cc (l2.is))
+at-strange c cs t w (too_large f2 r2 v l2 s2) = let n : is_lexeme f2 ≡ false = t.no_token f2 r2 (w ∙ v) in absurd (cc (l2.is))
+at-strange c cs t w (strange d ds s) = (refl, refl)
+
+pub lexed-once : {p : Place} {cs : List ℕ} {ts : List Token} {e : Ending} → Lexes p cs ts e → (us : List Token) (g : Ending) → Lexes p cs us g → Same ts e us g
+lexed-once nothing us g k = at-end refl k
+lexed-once (blank {ts} {e} c cs b l) us g k = at-blank c cs ts e b (lexed-once l) refl k
+lexed-once (comment {ts} {e} f r v c l n) us g k = at-comment f r ts e c l (lexed-once n) (sym v) k
+lexed-once (token {ts} {e} f r v l s n) us g k = at-token f r ts e l s (lexed-once n) (sym v) k
+lexed-once (too_large f r v l s) us g k = at-large f r l s (sym v) k
+lexed-once (strange c cs s) us g k = at-strange c cs s refl k
