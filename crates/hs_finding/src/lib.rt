@@ -6,7 +6,7 @@
 //! of which a match of a rule is the case that begins from nothing: with `hs_search` it gives the
 //! least extension, the next one and whether there is one. Candidates for an image are found along
 //! an edge of the graph where the pattern has one to an image that is known, and else among the
-//! objects. [`conforms`] climbs the supertypes of a metamodel.
+//! objects. [`image_of`] gives the image of a node; [`conforms`] climbs the supertypes of a metamodel.
 #![tactic(auto)]
 
 mod candidates;
@@ -25,3 +25,4 @@ pub use conformance::conforms;
 pub use extending::Extending;
 pub use form::{is_in_order, is_small, only_adds};
 pub use matching::first_match;
+pub use pattern::image_of;
