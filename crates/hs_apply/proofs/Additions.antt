@@ -3,7 +3,7 @@ use Rattle.std.proofs.Common.{ℕ, zero, suc, ◌+◌, ◌<◌, ◌≤◌, ◌�
 use Rattle.std.specs.List.{All, filter, filter_map}
 use Rattle.std.specs.Option.{is_some, option_map, option_and_then}
 use Rattle.std.proofs.lemmas.Bool.{cases_Bool}
-use Rattle.std.proofs.lemmas.List.{drop_more, map-append}
+use Rattle.std.proofs.lemmas.List.{length-map}
 use Rattle.std.proofs.lemmas.List.Elements.{All-head, All-tail, All-filter}
 use Rattle.hs_expr.specs.Evaluation.{Env}
 use Rattle.hs_types.specs.declared.graph.Graph.{Graph}
@@ -14,6 +14,7 @@ use Rattle.hs_types.specs.declared.meta.Feature.{Feature}
 use Rattle.hs_types.specs.declared.meta.FeatureKind.{FeatureKind}
 use Rattle.hs_types.specs.declared.meta.FeatureKind.TheVariants.{Attribute, Reference}
 use Rattle.hs_types.specs.declared.meta.Meta.{Meta}
+use Rattle.hs_types.specs.declared.plan.End.{End}
 use Rattle.hs_types.specs.declared.plan.Plan.{Plan}
 use Rattle.hs_types.specs.declared.rule.PatternEdge.{PatternEdge}
 use Rattle.hs_types.specs.declared.rule.PatternNode.{PatternNode}
@@ -21,7 +22,7 @@ use Rattle.hs_types.specs.declared.rule.Rule.{Rule}
 use Rattle.hs_types.specs.Dangling.{dropped_nodes, dropped_edges}
 use Rattle.hs_types.specs.Lists.{beside}
 use Rattle.hs_types.specs.Metamodel.{attributes_of, default_of, default_of_kind, feature_at, features_of, type_of, type_of_kind}
-use Rattle.hs_types.specs.Pattern.{is_drop, is_left, is_make, left_nodes, left_edges, made_nodes}
+use Rattle.hs_types.specs.Pattern.{is_drop, is_left, is_make, left_nodes, left_edges, made_edges, made_nodes}
 use Rattle.hs_types.specs.Plan.{edges_for, end_of, made_slots, objects_for, plan_of}
 use Rattle.hs_types.specs.PlainMatch.{kernel_of}
 use Rattle.hs_types.specs.Step.{new_edges, new_objects, rewritten, step, written}
@@ -63,6 +64,20 @@ objects_for-default m env n (node ∷ nodes) = elim (cases_Bool (is_make node.ma
   | inl e ↦ rw (e, made_slots-default m env n node.class, objects_for-default m env (n + 1) nodes) refl
   | inr e ↦ rw (e, objects_for-default m env (n + 1) nodes) refl
 ]
+
+few_left : {A : Type 0} (q : A → Bool) (xs : List A) → length (filter q xs) ≤ length xs
+few_left q [] = omega arith
+few_left q (x ∷ xs) = elim (cases_Bool (q x)) [
+  | inl e ↦ rw e (omega (arith, few_left q xs))
+  | inr e ↦ rw e (omega (arith, few_left q xs))
+]
+
+-- No more is made than is written.
+pub few_objects : (m : Meta) (nodes : List PatternNode) → length (map (made_object m) (made_nodes nodes)) ≤ length nodes
+few_objects m nodes = rw (length-map (made_nodes nodes) (made_object m)) (few_left (λ (node : PatternNode). is_make node.mark) nodes)
+
+pub few_edges : (end : ℕ → End) (edges : List PatternEdge) → length (edges_for end edges) ≤ length edges
+few_edges end edges = rw (length-map (made_edges edges) _) (few_left (λ (edge : PatternEdge). is_make edge.mark) edges)
 
 -- What a rule that only adds does at a match.
 abbrev pub additions : (m : Meta) (rule : Rule) (f : Match) → Plan

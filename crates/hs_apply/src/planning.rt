@@ -1,11 +1,11 @@
-ghost use Rattle.std.specs.Prelude.{◌≡◌, ℕ, [], IfOk, length, map, take, option_copied};
+ghost use Rattle.std.specs.Prelude.{◌≡◌, ◌≤◌, ℕ, [], IfOk, length, map, take, option_copied};
 ghost use Rattle.hs_types.specs.declared.graph.Graph.{Graph};
 ghost use Rattle.hs_types.specs.Metamodel.{default_of, features_of};
 ghost use Rattle.hs_types.specs.Pattern.{is_make, made_nodes, node_is};
 ghost use Rattle.hs_types.specs.Plan.{edges_for, end_of, plan_of};
 ghost use Rattle.hs_types.specs.PlainMatch.{image};
 ghost use Rattle.hs_finding.specs.FirstMatch.{OnlyAdds, no_args};
-ghost use Rattle.hs_apply.specs.Additions.{default_slots, made_object};
+ghost use Rattle.hs_apply.specs.Additions.{OnlyMakes, default_slots, made_object};
 
 use hs_expr::{List, Value};
 use hs_finding::image_of;
@@ -20,7 +20,9 @@ use std::alloc::{AllocError, Global};
 /// every graph.
 pub fn plan(alloc: Global, meta: &Meta, rule: &Rule, found: &Match) -> Result<Plan, AllocError>
     requires only_adds { OnlyAdds rule.now }
-    ensures { IfOk result (λ plan. (g : Graph) → plan ≡ plan_of meta.now g rule.now no_args found.now) }
+    ensures plan { IfOk result (λ plan. (g : Graph) → plan ≡ plan_of meta.now g rule.now no_args found.now) }
+    ensures only_makes { IfOk result OnlyMakes }
+    ensures few { IfOk result (λ plan. (length plan.make_objects ≤ length rule.now.shape.nodes) × (length plan.make_edges ≤ length rule.now.shape.edges)) }
 {
     let nodes = rule.shape.nodes.as_slice();
     let edges = rule.shape.edges.as_slice();

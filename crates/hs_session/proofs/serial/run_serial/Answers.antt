@@ -1,0 +1,29 @@
+use Rattle.std.proofs.Common.{◌≡◌, ap, sym, ◌∙◌, refl, Some, slice_get, IsSomeAnd, subst}
+use Rattle.std.specs.Prelude.{Option}
+use Rattle.hs_types.specs.declared.meta.Meta.{Meta}
+use Rattle.hs_types.specs.declared.rule.Rule.{Rule}
+use Rattle.hs_types.specs.Journal.{meta_of, rule_of}
+use Rattle.hs_finding.specs.FirstMatch.{no_args}
+use Rattle.hs_session.specs.Runnable.{IsRunnable}
+use Rattle.hs_session.proofs.Served.{Made, serial_told}
+use Rattle.hs_session.proofs.serial.run_serial.Goals as goal
+
+pub returns : goal.returns
+returns c =
+    let rules = c.args.rules.now in
+    let rule = c.rule_at-rule.result.now in
+    let tried = c.in_ok-tried.tried in
+    let model : c.deref.result.now ≡ meta_of rules = c.deref.ensures ∙ c.requires.same_model in
+    let runs : IsRunnable (meta_of rules) c.args.graph.graph rule = subst (λ (r : Option Rule). IsSomeAnd r (IsRunnable (meta_of rules) c.args.graph.graph)) c.rule_at-rule.ensures c.requires.runnable in
+    let made : Made rules c.args.graph.graph c.args.request.now rule tried = record {
+      called = c.requires.called ∙ ap Some (sym c.in_ok-tried.ensures.rule);
+      found = rw c.in_ok-tried.ensures.rule c.rule_at-rule.ensures;
+      asked_args = c.requires.no_arguments;
+      tried_args = c.in_ok-tried.ensures.args ∙ c.requires.no_arguments;
+      first = c.in_ok-tried.ensures.first;
+      no_params = runs.no_params;
+      told = rw (c.in_ok-tried.ensures.outcome, ← model) c.in_ok-outcome.ensures.lawful;
+      least = rw (c.in_ok-tried.ensures.outcome, ← model) c.in_ok-outcome.ensures.least;
+    } in
+    rw (c.in_ok-one.ensures, c.in_ok-one-2.ensures, c.in_ok-reply.ensures)
+    (serial_told rules c.args.graph.graph c.args.request.now rule tried (record { meta = c.args.graph.meta; graph = c.in_ok-outcome.field-0.graph }) c.in_ok-outcome.field-0.outcome made c.in_ok-tried.ensures.outcome (rw (← model) c.in_ok-outcome.ensures.after) c.requires.same_model)

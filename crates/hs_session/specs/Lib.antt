@@ -1,0 +1,4 @@
+pub mod Answers
+pub mod LawfulReport
+pub mod Runnable
+pub mod SerialReport

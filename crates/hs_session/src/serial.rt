@@ -1,0 +1,209 @@
+ghost use Rattle.std.specs.Prelude.{◌≡◌, ◌∷◌, [], IfOk, IsSome, IsSomeAnd, Some, option_copied, slice_get};
+ghost use Rattle.std.specs.Arc.{arc_value};
+ghost use Rattle.std.specs.List.{All, filter_map};
+ghost use Rattle.hs_types.specs.declared.entry.Cause.{Cause};
+ghost use Rattle.hs_types.specs.Journal.{OutcomeAsks, after_outcome, match_named, meta_of};
+ghost use Rattle.hs_types.specs.Metamodel.{IsMeta};
+ghost use Rattle.hs_types.specs.TypedGraph.{IsTyped, name_at, object_at};
+ghost use Rattle.hs_types.specs.ValidMatch.{IsLeast, IsValid};
+ghost use Rattle.hs_finding.specs.FirstMatch.{OnlyAdds, no_args};
+ghost use Rattle.hs_session.specs.Answers.{rule_named};
+ghost use Rattle.hs_session.specs.Runnable.{IsRunnable, word_for};
+ghost use Rattle.hs_session.specs.SerialReport.{IsLeastOutcome, IsSerialReport};
+
+use crate::report::{Reply, Report, Word};
+use hs_apply::{Stepped, install, plan};
+use hs_expr::{List, Text};
+use hs_finding::first_match;
+use hs_types::{
+    Entry, Graph, ListGraph, Match, MatchNames, Meta, Object, ObjectNo, Outcome, Request, Rule,
+    RuleSet, Tried, What,
+};
+use std::alloc::{AllocError, Global};
+
+/// How an attempt went, and the graph after it.
+#[derive(Debug, Drop)]
+struct Attempted {
+    outcome: Outcome,
+    graph: Graph,
+}
+
+/// Runs one request of one session, which calls the rule at this place without arguments, from this
+/// graph on.
+pub fn run_serial(
+    alloc: Global,
+    graph: ListGraph,
+    rules: &RuleSet,
+    called: u16,
+    request: &Request,
+) -> Result<Report, AllocError>
+    requires model { IsMeta (meta_of rules.now) }
+    requires same_model { arc_value graph.meta ≡ meta_of rules.now }
+    requires typed { IsTyped (meta_of rules.now) graph.graph }
+    requires called { rule_named rules.now request.now.call ≡ Some called }
+    requires runnable { IsSomeAnd (slice_get rules.now.rules called) (IsRunnable (meta_of rules.now) graph.graph) }
+    requires no_arguments { request.now.args ≡ no_args }
+    ensures { IfOk result (IsSerialReport rules.now graph.graph ((request.now ∷ []) ∷ [])) }
+{
+    let ListGraph { meta, graph } = graph;
+    let rule = rule_at(rules, called);
+    let Attempted { outcome, graph } = attempt(alloc, &meta, graph, rule)?;
+    let reply = reply_of(alloc, &outcome)?;
+    let tried = first_try(called, request, outcome)?;
+    let entry = Entry {
+        session: 0,
+        request: 0,
+        what: What::One(tried),
+    };
+    Ok(Report {
+        journal: one(alloc, entry)?,
+        replies: one(alloc, reply)?,
+        graph: ListGraph { meta, graph },
+    })
+}
+
+fn rule_at(rules: &RuleSet, place: u16) -> &Rule
+    requires { IsSome (slice_get rules.now.rules place) }
+    ensures { slice_get rules.now.rules place ≡ Some result.now }
+{
+    &rules.rules.as_slice()[usize::from(place)]
+}
+
+/// The first attempt at the rule at this place.
+fn first_try(called: u16, request: &Request, outcome: Outcome) -> Result<Tried, AllocError>
+    ensures first { IfOk result (λ tried. tried.attempt ≡ 0) }
+    ensures rule { IfOk result (λ tried. tried.rule ≡ called) }
+    ensures args { IfOk result (λ tried. tried.args ≡ request.now.args) }
+    ensures outcome { IfOk result (λ tried. tried.outcome ≡ outcome) }
+{
+    Ok(Tried {
+        attempt: 0,
+        rule: called,
+        args: request.args.clone()?,
+        outcome,
+    })
+}
+
+/// A list of one item.
+fn one<T: Drop>(alloc: Global, item: T) -> Result<List<T>, AllocError>
+    ensures { IfOk result (λ list. list ≡ item ∷ []) }
+{
+    let mut list = List::new(alloc);
+    list.push(item)?;
+    Ok(list)
+}
+
+/// The reply to the first request of the first session, whose attempt is the journal's first entry.
+fn reply_of(alloc: Global, outcome: &Outcome) -> Result<Reply, AllocError>
+    ensures { IfOk result (λ reply. reply ≡ record { session = 0; request = 0; word = word_for outcome.now; places = 0 ∷ []; outs = [] }) }
+{
+    Ok(Reply {
+        session: 0,
+        request: 0,
+        word: word_for(outcome),
+        places: one(alloc, 0)?,
+        outs: List::new(alloc),
+    })
+}
+
+fn word_for(outcome: &Outcome) -> Word
+    ensures { result ≡ word_for outcome.now }
+{
+    match outcome {
+        Outcome::Applied { .. } => Word::Ok,
+        Outcome::Missed => Word::NoMatch,
+    }
+}
+
+/// Applies the rule at its least valid match, or misses where there is none.
+fn attempt(
+    alloc: Global,
+    meta: &Meta,
+    graph: Graph,
+    rule: &Rule,
+) -> Result<Attempted, AllocError>
+    requires model { IsMeta meta.now }
+    requires typed { IsTyped meta.now graph }
+    requires runnable { IsRunnable meta.now graph rule.now }
+    ensures lawful { IfOk result (λ a. (asked : Cause) → OutcomeAsks meta.now graph rule.now no_args a.outcome asked) }
+    ensures least { IfOk result (λ a. IsLeastOutcome meta.now graph rule.now no_args a.outcome) }
+    ensures after { IfOk result (λ a. a.graph ≡ after_outcome meta.now graph rule.now no_args a.outcome) }
+{
+    match first_match(alloc, meta, &graph, rule)? {
+        Some(found) => applied(alloc, meta, graph, rule, found),
+        None => Ok(Attempted {
+            outcome: Outcome::Missed,
+            graph,
+        }),
+    }
+}
+
+fn applied(
+    alloc: Global,
+    meta: &Meta,
+    graph: Graph,
+    rule: &Rule,
+    found: Match,
+) -> Result<Attempted, AllocError>
+    requires model { IsMeta meta.now }
+    requires typed { IsTyped meta.now graph }
+    requires runnable { IsRunnable meta.now graph rule.now }
+    requires least { IsLeast meta.now graph rule.now no_args found }
+    ensures lawful { IfOk result (λ a. (asked : Cause) → OutcomeAsks meta.now graph rule.now no_args a.outcome asked) }
+    ensures least { IfOk result (λ a. IsLeastOutcome meta.now graph rule.now no_args a.outcome) }
+    ensures after { IfOk result (λ a. a.graph ≡ after_outcome meta.now graph rule.now no_args a.outcome) }
+{
+    let plan = plan(alloc, meta, rule, &found)?;
+    let found = names_of_match(alloc, meta, &graph, rule, found)?;
+    let Stepped { graph, new } = install(alloc, graph, &plan)?;
+    let outcome = Outcome::Applied {
+        found,
+        new,
+        old: List::new(alloc),
+        gone: List::new(alloc),
+    };
+    Ok(Attempted { outcome, graph })
+}
+
+/// A valid match with its objects by name.
+fn names_of_match(
+    alloc: Global,
+    meta: &Meta,
+    graph: &Graph,
+    rule: &Rule,
+    found: Match,
+) -> Result<MatchNames, AllocError>
+    requires typed { IsTyped meta.now graph.now }
+    requires only_adds { OnlyAdds rule.now }
+    requires valid { IsValid meta.now graph.now rule.now no_args found }
+    ensures { IfOk result (λ names. match_named graph.now names ≡ Some found) }
+{
+    Ok(MatchNames {
+        nodes: names_of(alloc, graph, found.nodes.as_slice())?,
+        edges: found.edges,
+        copies: List::new(alloc),
+    })
+}
+
+/// The names of the objects at these numbers.
+fn names_of(
+    alloc: Global,
+    graph: &Graph,
+    numbers: &[ObjectNo],
+) -> Result<List<Text>, AllocError>
+    ensures { IfOk result (λ names. names ≡ filter_map (name_at graph.now) numbers.now) }
+{
+    let mut names = List::new(alloc);
+    for number in numbers {
+        if let Some(object) = object_at(graph, *number) {
+            names.push(object.name.clone()?)?;
+        }
+    }
+    Ok(names)
+}
+
+fn object_at(graph: &Graph, number: ObjectNo) -> Option<&Object>
+    ensures { option_copied result ≡ object_at graph.now number }
+{
+    graph.objects.iter().find(|object| object.number == number)
+}
