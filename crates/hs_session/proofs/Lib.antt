@@ -1,3 +1,5 @@
 pub mod Attempts
 pub mod Named
+pub mod Naming
 pub mod Served
+pub mod Unique

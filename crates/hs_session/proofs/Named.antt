@@ -29,7 +29,7 @@ use Rattle.hs_laws.proofs.Lists.{All-find, All-of_map, AllZip-right, find-passes
 same_text-itself : (t : List ℕ) → same_text t t ≡ true
 same_text-itself t = nat_list_eq_equiv.refl t
 
-same_text-same : (s t : List ℕ) → same_text s t ≡ true → s ≡ t
+pub same_text-same : (s t : List ℕ) → same_text s t ≡ true → s ≡ t
 same_text-same s t e = (bytes_decides s t).0 e
 
 -- What is found is found again by its text, where texts differ.
