@@ -1,6 +1,7 @@
-use Rattle.std.proofs.Common.{ℕ, zero, suc, ◌+◌, ◌<◌, ◌≤◌, ◌≡◌, List, [], ◌∷◌, ◌++◌, length, take, drop, map, slice_get, Option, Some, Bool, false, refl, arith, sym, ◌∙◌, inl, inr}
+use Rattle.std.proofs.Common.{ℕ, zero, suc, ◌+◌, ◌<◌, ◌≤◌, ◌≡◌, List, [], ◌∷◌, ◌++◌, length, take, drop, map, slice_get, Option, Some, None, Bool, false, refl, arith, sym, ◌∙◌, inl, inr}
 use Rattle.std.specs.Prelude.{IfSome, IfNone}
 use Rattle.std.specs.List.{All, AllZip}
+use Rattle.std.specs.Option.{is_some}
 use Rattle.std.proofs.lemmas.List.{take-append-drop}
 use Rattle.std.proofs.lemmas.List.Elements.{All-nil, All-head, All-tail, All-filter}
 use Rattle.std.proofs.lemmas.Slice.Zip.{AllZip-long}
@@ -136,3 +137,12 @@ least_as n k s t o size same l = rw (← size, ← same) l
 
 pub none_as : (n k : ℕ) (s t : Sought) (o : Option (ArrayVec ℕ)) → n ≡ k → s ≡ t → IfNone o (IsNone (IsChoice n (AreImages s))) → IfNone o (IsNone (IsChoice k (AreImages t)))
 none_as n k s t o size same l = rw (← size, ← same) l
+
+-- The images that were found, or not, are the answer to the search.
+pub answer_of : (m : Meta) (g : Graph) (rule : Rule) (o : Option (ArrayVec ℕ)) → OnlyAdds rule →
+    IfSome o (λ found. IsLeast (IsChoice (length (left_nodes rule.shape.nodes) + length (left_edges rule.shape.edges)) (AreImages (kernel m g rule.shape))) found.items) →
+    IfNone o (IsNone (IsChoice (length (left_nodes rule.shape.nodes) + length (left_edges rule.shape.edges)) (AreImages (kernel m g rule.shape)))) →
+    (answer : Option Match) × IsFirst m g rule no_args answer × (is_some o ≡ is_some answer)
+answer_of m g rule None adds least none = (None, none_valid m g rule none, refl)
+answer_of m g rule (Some found) adds least none =
+    (Some (record { nodes = take (length (left_nodes rule.shape.nodes)) found.items; edges = drop (length (left_nodes rule.shape.nodes)) found.items; copies = [] }), least_valid m g rule found.items _ adds refl least, refl)

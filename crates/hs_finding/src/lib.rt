@@ -1,7 +1,7 @@
 //! How matches are found in a typed graph: image by image, the least one first.
 //!
 //! [`first_match`] gives the least valid match of a rule that only adds, and nothing exactly where
-//! no match is valid; [`is_in_order`], [`is_small`] and [`only_adds`] are the tests of what it asks.
+//! no match is valid; [`is_applicable`] tells whether there is one; [`is_in_order`], [`is_small`] and [`only_adds`] are the tests of what it asks.
 //! Under it lies [`Extending`], the search for an extension of a match by further nodes and edges,
 //! of which a match of a rule is the case that begins from nothing: with `hs_search` it gives the
 //! least extension, the next one and whether there is one. Candidates for an image are found along
@@ -24,5 +24,5 @@ mod tests;
 pub use conformance::conforms;
 pub use extending::Extending;
 pub use form::{is_in_order, is_small, only_adds};
-pub use matching::first_match;
+pub use matching::{first_match, is_applicable};
 pub use pattern::image_of;

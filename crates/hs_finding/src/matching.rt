@@ -1,4 +1,6 @@
-ghost use Rattle.std.specs.Prelude.{◌≡◌, ◌≤◌, ◌+◌, [], take, drop, length, IfOk, IfSome, IfNone};
+ghost use Rattle.std.specs.Prelude.{◌≡◌, ◌≤◌, ◌+◌, [], take, drop, length, Option, IfOk, IfSome, IfNone};
+ghost use Rattle.std.specs.Option.{is_some};
+ghost use Rattle.hs_types.specs.declared.matching.Match.{Match};
 ghost use Rattle.hs_search.specs.Choice.{IsChoice, IsLeast, IsNone};
 ghost use Rattle.hs_types.specs.Pattern.{left_nodes, left_edges};
 ghost use Rattle.hs_types.specs.ValidMatch.{IsFirst};
@@ -29,6 +31,17 @@ pub fn first_match(
         Some(found) => Ok(Some(match_of(alloc, rule, &found)?)),
         None => Ok(None),
     }
+}
+
+/// Whether some match of a rule that only adds is valid. It takes no memory; so there always is a
+/// least valid match, or none.
+pub fn is_applicable(meta: &Meta, graph: &Graph, rule: &Rule) -> bool
+    requires in_order { InOrder graph.now }
+    requires small { IsSmall rule.now.shape }
+    requires only_adds { OnlyAdds rule.now }
+    ensures { (answer : Option Match) × IsFirst meta.now graph.now rule.now no_args answer × (result ≡ is_some answer) }
+{
+    first_images(meta, graph, &rule.shape).is_some()
 }
 
 /// The images of the least plain match of a shape.

@@ -3,3 +3,4 @@ pub mod Named
 pub mod Naming
 pub mod Served
 pub mod Unique
+pub mod Exists

@@ -62,7 +62,7 @@ pub fn run_serial(
     })
 }
 
-fn rule_at(rules: &RuleSet, place: u16) -> &Rule
+pub fn rule_at(rules: &RuleSet, place: u16) -> &Rule
     requires { IsSome (slice_get rules.now.rules place) }
     ensures { slice_get rules.now.rules place ≡ Some result.now }
 {

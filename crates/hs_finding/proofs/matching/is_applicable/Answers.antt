@@ -1,0 +1,14 @@
+use Rattle.std.proofs.Common.{◌≡◌, ◌+◌, length, Option, Some, None, take, drop, [], refl, ◌∙◌}
+use Rattle.std.specs.Prelude.{IfSome, IfNone}
+use Rattle.std.specs.Option.{is_some}
+use Rattle.arrayvec.specs.ArrayVec.{ArrayVec}
+use Rattle.hs_types.specs.declared.matching.Match.{Match}
+use Rattle.hs_types.specs.ValidMatch.{IsFirst}
+use Rattle.hs_finding.specs.FirstMatch.{no_args}
+use Rattle.hs_finding.proofs.Valid.{answer_of}
+use Rattle.hs_finding.proofs.matching.is_applicable.Goals as goal
+
+pub returns : goal.returns
+returns c =
+    let found = answer_of c.args.meta.now c.args.graph.now c.args.rule.now c.first_images.result c.requires.only_adds c.first_images.ensures.least c.first_images.ensures.none in
+    (found.0, found.1, c.is_some.ensures ∙ found.2)
