@@ -33,7 +33,7 @@ first_below : (b : Bool) (n len : ℕ) (any : Bool) → ltb n len ≡ any → lt
 first_below true n len any e = grind (arith, nat_tests)
 first_below false n len any e = sym (sym e ∙ grind (arith, nat_tests))
 
-below_any : {A : Type 0} (p : A → Bool) (xs : List A) → ltb (position_or_len p xs) (length xs) ≡ list_any p xs
+pub below_any : {A : Type 0} (p : A → Bool) (xs : List A) → ltb (position_or_len p xs) (length xs) ≡ list_any p xs
 below_any p [] = refl
 below_any p (x ∷ xs) = first_below (p x) (position_or_len p xs) (length xs) (list_any p xs) (below_any p xs)
 
@@ -72,11 +72,11 @@ either_true : (a b : Bool) → (a || b) ≡ true → a ≡ false → b ≡ true
 either_true true b e f = absurd (false≢true (sym f))
 either_true false b e f = e
 
-left_false : (a b : Bool) → (a || b) ≡ false → a ≡ false
+pub left_false : (a b : Bool) → (a || b) ≡ false → a ≡ false
 left_false true b e = e
 left_false false b e = refl
 
-right_false : (a b : Bool) → (a || b) ≡ false → b ≡ false
+pub right_false : (a b : Bool) → (a || b) ≡ false → b ≡ false
 right_false true b e = absurd (false≢true (sym e))
 right_false false b e = e
 
@@ -98,7 +98,7 @@ differ_not (x ∷ xs) ys y e =
 both_are : (a b : Bool) → a ≡ false → b ≡ true → (not a && b) ≡ true
 both_are a b e f = ap (λ a. not a && b) e ∙ f
 
-not_true : (a : Bool) → not a ≡ true → a ≡ false
+pub not_true : (a : Bool) → not a ≡ true → a ≡ false
 not_true true e = sym e
 not_true false e = refl
 

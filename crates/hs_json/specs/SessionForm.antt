@@ -1,5 +1,5 @@
 -- What sessions ask for.
-use Rattle.std.specs.Prelude.{List, [], ◌∷◌, Bool, true, false, Option, Some, codes}
+use Rattle.std.specs.Prelude.{◌≡◌, List, [], ◌∷◌, Bool, true, false, Option, Some, codes}
 use Rattle.std.proofs.Common.{lit≤}
 use Rattle.serde_json.specs.Data.{Data}
 use Rattle.serde_json.specs.Find.{get, as_str}
@@ -24,3 +24,13 @@ sessions_of d = do
   sessions ← list_at (list_at request_of) d
   single ← demand (is_single sessions)
   Some sessions
+
+-- The request has no arguments, a fuel of 1,000, and isn't a group.
+pub record IsPlainCall (request : Request) : Type 0 where
+  pub no_args : request.args.list ≡ []
+  pub fuel : request.fuel ≡ 1000
+  pub alone : request.group ≡ false
+
+-- The sessions are one session with one such request.
+abbrev pub IsSingleCall : List (List Request) → Type 0
+IsSingleCall sessions = (request : Request) × (sessions ≡ (request ∷ []) ∷ []) × IsPlainCall request

@@ -13,6 +13,7 @@ mod fault;
 mod form;
 mod graph;
 mod graph_form;
+pub mod laws;
 mod links;
 mod meta;
 mod meta_form;
