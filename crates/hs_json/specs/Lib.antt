@@ -1,0 +1,9 @@
+pub mod Names
+pub mod Form
+pub mod MetaForm
+pub mod MetaMeaning
+pub mod GraphForm
+pub mod GraphMeaning
+pub mod SessionForm
+pub mod BundleForm
+pub mod Answer

@@ -1,4 +1,6 @@
-use serde_json::Error;
+ghost use Rattle.hs_json.specs.Answer.{Gives, GivesWhere};
+ghost use Rattle.hs_json.specs.Form.{demand as demanded};
+
 use std::alloc::{AllocError, AllocFailed};
 
 /// Why a bundle was not read.
@@ -31,18 +33,11 @@ impl<T: Drop> From<AllocFailed<T>> for BundleFault {
     }
 }
 
-impl From<Error> for BundleFault {
-    fn from(error: Error) -> BundleFault {
-        if error.is_memory() {
-            BundleFault::NoMemory
-        } else {
-            BundleFault::NotBuilt
-        }
-    }
-}
-
 /// Goes on where the test holds.
-pub fn demand(test: bool) -> Result<(), BundleFault> {
+pub fn demand(test: bool) -> Result<(), BundleFault>
+    ensures gives { Gives result (demanded test) }
+    ensures tells { GivesWhere (λ _. Unit {0}) result test }
+{
     if test {
         Ok(())
     } else {

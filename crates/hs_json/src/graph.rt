@@ -1,140 +1,105 @@
-//! Instance graphs: objects first, then edges between them.
+//! The typed graph that written objects mean.
+
+ghost use Rattle.std.specs.Prelude.{◌≡◌, ◌≤◌, ℕ, map, length, true, false, IfOk, OnOk, nat_le};
+ghost use Rattle.std.specs.List.{list_all};
+ghost use Rattle.serde_json.specs.View.{view};
+ghost use Rattle.hs_types.specs.declared.meta.Meta.{Meta};
+ghost use Rattle.hs_json.specs.Answer.{Gives};
+ghost use Rattle.hs_json.specs.GraphMeaning as spec;
+ghost use Rattle.hs_json.specs.Names.{is_object_name as named};
 
 use crate::BundleFault;
 use crate::fault::demand;
-use crate::form::{list_of, needed, object_of, text_of};
-use crate::meta::{class_named, target_of};
+use crate::graph_form::objects_of;
+use crate::links::{all_links, all_refs_stand, all_targets_fit};
 use crate::names::is_object_name;
-use hs_expr::{List, Text};
-use hs_types::{Edge, FeatureNo, Graph, Meta, Object, ObjectNo};
-use serde_json::{Map, Value};
-use std::alloc::Global;
-use std::collections::BTreeMap;
+use crate::numbers::{classes_of, numbers_of};
+use crate::written::{Link, WrittenObject};
+use hs_expr::List;
+use hs_types::{ClassNo, Edge, Graph, Meta, Object};
+use serde_json::Value;
+use std::alloc::{AllocError, Global};
 
 /// The most objects of an opening graph.
 const MOST_OBJECTS: usize = 200_000;
 
-/// The most edges of an opening graph.
-const MOST_EDGES: usize = 400_000;
-
-/// The numbers of the objects, by their names.
-type Numbers = BTreeMap<String, ObjectNo>;
-
 /// The opening graph that a value is, over this metamodel.
-pub fn graph_of(alloc: Global, meta: &Meta, value: &Value) -> Result<Graph, BundleFault> {
-    let items = list_of(value)?;
-    demand(items.len() <= MOST_OBJECTS)?;
-    let mut numbers = Numbers::new(alloc);
-    let mut objects = List::new(alloc);
-    for item in items {
-        objects.push(object_from(alloc, meta, item, &mut numbers)?)?;
-    }
-    let mut edges = List::new(alloc);
-    for (i, item) in items.iter().enumerate() {
-        add_edges(meta, &objects, &numbers, i, item, &mut edges)?;
-    }
-    let next_object = objects.len() as u64;
-    let next_edge = edges.len() as u64;
+#[tactic(auto, unfolding(crate::specs::GraphMeaning::graph_of))]
+pub fn graph_of(alloc: Global, meta: &Meta, value: &Value) -> Result<Graph, BundleFault>
+    requires { length meta.now.classes ≤ 256 }
+    ensures { Gives result (spec.graph_of meta.now (view value.now)) }
+{
+    let objects = objects_of(alloc, value)?;
+    meant_graph(alloc, meta, objects.as_slice())
+}
+
+/// The graph of these objects, where they are those of one.
+#[tactic(auto, unfolding(crate::specs::GraphMeaning::graph_meant, crate::specs::GraphMeaning::meant_graph))]
+fn meant_graph(alloc: Global, meta: &Meta, objects: &[WrittenObject]) -> Result<Graph, BundleFault>
+    requires { length meta.now.classes ≤ 256 }
+    ensures { Gives result (spec.graph_meant meta.now objects.now) }
+{
+    demand(objects.len() <= MOST_OBJECTS)?;
+    demand(all_names_fit(objects))?;
+    let numbers = numbers_of(alloc, objects)?;
+    let classes = classes_of(alloc, meta, objects)?;
+    let classes = classes.as_slice();
+    demand(all_refs_stand(meta, classes, objects))?;
+    demand(all_targets_fit(meta, &numbers, classes, objects))?;
+    let links = all_links(alloc, meta, &numbers, classes, objects)?;
+    let next_edge = links.len() as u64;
     Ok(Graph {
-        objects,
-        edges,
-        next_object,
+        objects: numbered_objects(alloc, classes, objects)?,
+        edges: numbered_edges(alloc, links.as_slice())?,
+        next_object: objects.len() as u64,
         next_edge,
         next_name: 0,
     })
 }
 
-/// The next object, whose name is noted with its number.
-fn object_from(
-    alloc: Global,
-    meta: &Meta,
-    item: &Value,
-    numbers: &mut Numbers,
-) -> Result<Object, BundleFault> {
-    object_of(item, &["name", "class", "refs"])?;
-    let name = text_of(needed(item, "name")?)?;
-    demand(is_object_name(name))?;
-    let class = class_named(meta, text_of(needed(item, "class")?)?).ok_or(BundleFault::NotBuilt)?;
-    let number = u32::try_from(numbers.len()).map_err(|_| BundleFault::NotBuilt)?;
-    let before = numbers.insert(String::from_str(alloc, name)?, number)?;
-    demand(before.is_none())?;
-    Ok(Object {
-        number,
-        name: Text::from_str(alloc, name)?,
-        class,
-        slots: List::new(alloc),
-    })
-}
-
-/// Adds the edges of the i-th object, reference by reference in the order of its class.
-fn add_edges(
-    meta: &Meta,
-    objects: &List<Object>,
-    numbers: &Numbers,
-    i: usize,
-    item: &Value,
-    edges: &mut List<Edge>,
-) -> Result<(), BundleFault> {
-    let Some(refs) = item.get("refs") else {
-        return Ok(());
-    };
-    let refs = refs.as_object().ok_or(BundleFault::NotBuilt)?;
-    let source = objects.get(i).ok_or(BundleFault::NotBuilt)?;
-    let class = meta
-        .classes
-        .get(usize::from(source.class))
-        .ok_or(BundleFault::NotBuilt)?;
-    demand(refs.keys().all(|key| has_feature(meta, class.features.as_slice(), key.as_str())))?;
-    for feature in class.features.as_slice() {
-        add_targets(meta, objects, numbers, source.number, *feature, refs, edges)?;
-    }
-    Ok(())
-}
-
-/// Whether one of these features has this name.
-fn has_feature(meta: &Meta, features: &[FeatureNo], name: &str) -> bool {
-    features
+fn all_names_fit(objects: &[WrittenObject]) -> bool
+    ensures { result ≡ list_all (λ object. named object.name) objects.now }
+{
+    objects
         .iter()
-        .any(|feature| is_feature_named(meta, *feature, name))
+        .all(|object| is_object_name(object.name.as_str()))
 }
 
-fn is_feature_named(meta: &Meta, feature: FeatureNo, name: &str) -> bool {
-    match meta.features.get(usize::from(feature)) {
-        Some(feature) => feature.name.as_str() == name,
-        None => false,
-    }
-}
-
-/// Adds an edge for each target that the source has at this reference.
-fn add_targets(
-    meta: &Meta,
-    objects: &List<Object>,
-    numbers: &Numbers,
-    source: ObjectNo,
-    reference: FeatureNo,
-    refs: &Map<String, Value>,
-    edges: &mut List<Edge>,
-) -> Result<(), BundleFault> {
-    let feature = meta
-        .features
-        .get(usize::from(reference))
-        .ok_or(BundleFault::NotBuilt)?;
-    let Some(targets) = refs.get(feature.name.as_str()) else {
-        return Ok(());
-    };
-    let class = target_of(meta, reference).ok_or(BundleFault::NotBuilt)?;
-    for target in list_of(targets)? {
-        let name = text_of(target)?;
-        let target = *numbers.get(name).ok_or(BundleFault::NotBuilt)?;
-        let object = objects.get(target as usize).ok_or(BundleFault::NotBuilt)?;
-        demand(object.class == class && edges.len() < MOST_EDGES)?;
-        let number = u32::try_from(edges.len()).map_err(|_| BundleFault::NotBuilt)?;
-        edges.push(Edge {
-            number,
-            source,
-            reference,
-            target,
+/// The objects, numbered by their places.
+fn numbered_objects(
+    alloc: Global,
+    classes: &[ClassNo],
+    objects: &[WrittenObject],
+) -> Result<List<Object>, AllocError>
+    requires few { length objects.now ≤ 200000 }
+    requires resolved { length classes.now ≡ length objects.now }
+    ensures { (m : Meta) → classes.now ≡ map (spec.class_of m) objects.now → IfOk result (λ made. made ≡ spec.objects_from m 0 objects.now) }
+{
+    let mut made = List::new(alloc);
+    for (i, object) in objects.iter().enumerate() {
+        made.push(Object {
+            number: i as u32,
+            name: object.name.clone()?,
+            class: classes[i],
+            slots: List::new(alloc),
         })?;
     }
-    Ok(())
+    Ok(made)
+}
+
+/// The edges, numbered by their places.
+fn numbered_edges(alloc: Global, links: &[Link]) -> Result<List<Edge>, AllocError>
+    requires { length links.now ≤ 400000 }
+    ensures { IfOk result (λ made. made ≡ spec.edges_from 0 links.now) }
+{
+    let mut made = List::new(alloc);
+    for (i, link) in links.iter().enumerate() {
+        made.push(Edge {
+            number: i as u32,
+            source: link.source,
+            reference: link.reference,
+            target: link.target,
+        })?;
+    }
+    Ok(made)
 }

@@ -1,13 +1,23 @@
-//! Metamodels: the form, and the names in it resolved.
+//! The metamodel that written classes mean.
+
+ghost use Rattle.std.specs.Prelude.{ℕ, ◌+◌, ◌<◌, ◌≤◌, ◌^◌, ◌≡◌, ◌++◌, List, map, length, true, IfOk, OnOk};
+ghost use Rattle.std.specs.List.{All, list_all, position_or_len, range_with_len};
+ghost use Rattle.serde_json.specs.View.{view};
+ghost use Rattle.hs_types.specs.Lists.{same_text};
+ghost use Rattle.hs_json.specs.Answer.{Gives};
+ghost use Rattle.hs_json.specs.MetaMeaning as spec;
+ghost use Rattle.hs_json.specs.Names.{is_identifier as named};
 
 use crate::BundleFault;
 use crate::fault::demand;
-use crate::form::{list_at, list_of, needed, object_of, read_each, text_of};
+use crate::meta_form::classes_of;
+use crate::named::{is_there, names_differ, place_of};
 use crate::names::is_identifier;
+use crate::written::{WrittenClass, WrittenReference};
 use hs_expr::{List, Text};
-use hs_types::{Class, ClassNo, Feature, FeatureKind, FeatureNo, Meta};
+use hs_types::{Class, Feature, FeatureKind, FeatureNo, Meta};
 use serde_json::Value;
-use std::alloc::Global;
+use std::alloc::{AllocError, Global};
 
 /// The most classes of a metamodel.
 const MOST_CLASSES: usize = 256;
@@ -15,143 +25,224 @@ const MOST_CLASSES: usize = 256;
 /// The most features of a class.
 const MOST_FEATURES: usize = 64;
 
-/// A class as it is written, its targets by name.
-#[derive(Debug, Drop)]
-struct WrittenClass {
-    name: Text,
-    references: List<WrittenReference>,
-}
-
-#[derive(Debug, Drop)]
-struct WrittenReference {
-    name: Text,
-    target: Text,
-    upper: Option<u64>,
-}
-
 /// The metamodel that a value is.
-pub fn meta_of(alloc: Global, value: &Value) -> Result<Meta, BundleFault> {
-    object_of(value, &["classes"])?;
-    let classes = list_of(needed(value, "classes")?)?;
-    let classes = read_each(alloc, classes, &|class: &Value| class_of(alloc, class))?;
-    resolved(alloc, &classes)
+#[tactic(auto, unfolding(crate::specs::MetaMeaning::meta_of))]
+pub fn meta_of(alloc: Global, value: &Value) -> Result<Meta, BundleFault>
+    ensures gives { Gives result (spec.meta_of (view value.now)) }
+    ensures few { IfOk result (λ meta. length meta.classes ≤ 256) }
+{
+    let classes = classes_of(alloc, value)?;
+    demand(is_meant(classes.as_slice()))?;
+    Ok(meant_meta(alloc, classes.as_slice())?)
 }
 
-fn class_of(alloc: Global, value: &Value) -> Result<WrittenClass, BundleFault> {
-    object_of(value, &["name", "references"])?;
-    Ok(WrittenClass {
-        name: identifier_of(alloc, needed(value, "name")?)?,
-        references: read_each(
-            alloc,
-            list_at(value, "references")?,
-            &|reference: &Value| reference_of(alloc, reference),
-        )?,
-    })
+/// Whether the classes are those of a metamodel.
+#[tactic(auto, unfolding(crate::specs::MetaMeaning::is_meant))]
+fn is_meant(classes: &[WrittenClass]) -> bool
+    ensures { result ≡ spec.is_meant classes.now }
+{
+    classes.len() <= MOST_CLASSES
+        && all_names_fit(classes)
+        && names_differ(classes)
+        && all_targets_stand(classes)
+        && all_bounds_fit(classes)
+        && all_references_differ(classes)
+        && all_are_small(classes)
 }
 
-fn reference_of(alloc: Global, value: &Value) -> Result<WrittenReference, BundleFault> {
-    object_of(value, &["name", "target", "upper"])?;
-    Ok(WrittenReference {
-        name: identifier_of(alloc, needed(value, "name")?)?,
-        target: identifier_of(alloc, needed(value, "target")?)?,
-        upper: upper_of(value.get("upper"))?,
-    })
+fn all_names_fit(classes: &[WrittenClass]) -> bool
+    ensures { result ≡ list_all spec.names_fit classes.now }
+{
+    classes.iter().all(names_fit)
 }
 
-fn identifier_of(alloc: Global, value: &Value) -> Result<Text, BundleFault> {
-    let text = text_of(value)?;
-    demand(is_identifier(text))?;
-    Ok(Text::from_str(alloc, text)?)
+fn names_fit(class: &WrittenClass) -> bool
+    ensures { result ≡ spec.names_fit class.now }
+{
+    is_identifier(class.name.as_str()) && references_fit(class.references.as_slice())
 }
 
-/// An upper bound: 1 where it is left out, and none where it is -1.
-fn upper_of(value: Option<&Value>) -> Result<Option<u64>, BundleFault> {
-    let Some(value) = value else {
-        return Ok(Some(1));
-    };
-    match value.as_i64() {
-        Some(-1) => Ok(None),
-        Some(bound) if bound >= 1 => Ok(Some(bound.unsigned_abs())),
-        _ => Err(BundleFault::NotBuilt),
-    }
+fn references_fit(references: &[WrittenReference]) -> bool
+    ensures { result ≡ list_all (λ reference. named reference.name) references.now }
+{
+    references
+        .iter()
+        .all(|reference| is_identifier(reference.name.as_str()))
+}
+
+fn all_targets_stand(classes: &[WrittenClass]) -> bool
+    ensures { result ≡ list_all (spec.targets_stand (spec.class_names classes.now)) classes.now }
+{
+    classes.iter().all(|class| targets_stand(classes, class))
+}
+
+fn targets_stand(classes: &[WrittenClass], class: &WrittenClass) -> bool
+    ensures { result ≡ spec.targets_stand (spec.class_names classes.now) class.now }
+{
+    class
+        .references
+        .as_slice()
+        .iter()
+        .all(|reference| is_there(classes, reference.target.as_str()))
+}
+
+fn all_bounds_fit(classes: &[WrittenClass]) -> bool
+    ensures { result ≡ list_all spec.bounds_fit classes.now }
+{
+    classes.iter().all(bounds_fit)
+}
+
+fn bounds_fit(class: &WrittenClass) -> bool
+    ensures { result ≡ spec.bounds_fit class.now }
+{
+    class
+        .references
+        .as_slice()
+        .iter()
+        .all(|reference| bound_fits(reference.upper))
+}
+
+/// Whether an upper bound is -1, which is none, or 1 and above.
+fn bound_fits(upper: i64) -> bool
+    ensures { result ≡ spec.bound_fits upper }
+{
+    upper == -1 || upper >= 1
+}
+
+fn all_references_differ(classes: &[WrittenClass]) -> bool
+    ensures { result ≡ list_all spec.references_differ classes.now }
+{
+    classes.iter().all(references_differ)
+}
+
+fn references_differ(class: &WrittenClass) -> bool
+    ensures { result ≡ spec.references_differ class.now }
+{
+    names_differ(class.references.as_slice())
+}
+
+fn all_are_small(classes: &[WrittenClass]) -> bool
+    ensures { result ≡ list_all spec.few_references classes.now }
+{
+    classes
+        .iter()
+        .all(|class| class.references.len() <= MOST_FEATURES)
 }
 
 /// The metamodel of these classes, its names resolved.
-fn resolved(alloc: Global, classes: &List<WrittenClass>) -> Result<Meta, BundleFault> {
-    demand(classes.len() <= MOST_CLASSES)?;
-    let mut meta = Meta {
+#[tactic(auto, using(crate::proofs::Meant::sizes), unfolding(crate::specs::MetaMeaning::meant_meta))]
+fn meant_meta(alloc: Global, classes: &[WrittenClass]) -> Result<Meta, AllocError>
+    requires { spec.is_meant classes.now ≡ true }
+    ensures value { IfOk result (λ meta. meta ≡ spec.meant_meta classes.now) }
+    ensures few { IfOk result (λ meta. length meta.classes ≤ 256) }
+{
+    Ok(Meta {
         format: 1,
-        classes: List::new(alloc),
-        features: List::new(alloc),
-    };
-    for class in classes.as_slice() {
-        demand(class_named(&meta, class.name.as_str()).is_none())?;
-        add_class(alloc, &mut meta, class, classes)?;
-    }
-    Ok(meta)
+        classes: resolved_classes(alloc, classes)?,
+        features: resolved_features(alloc, classes)?,
+    })
 }
 
-/// Adds a class with its features.
-fn add_class(
-    alloc: Global,
-    meta: &mut Meta,
-    class: &WrittenClass,
-    classes: &List<WrittenClass>,
-) -> Result<(), BundleFault> {
-    demand(class.references.len() <= MOST_FEATURES)?;
-    let owner = number(meta.classes.len())?;
-    let mut features = List::new(alloc);
-    for (i, reference) in class.references.as_slice().iter().enumerate() {
-        demand(!is_named_before(class.references.as_slice(), i, &reference.name))?;
-        features.push(number(meta.features.len())?)?;
-        meta.features.push(Feature {
-            owner,
-            name: reference.name.clone()?,
-            kind: FeatureKind::Reference {
-                target: number(place_of(classes, &reference.target)?)?,
-                containment: false,
-                lower: 0,
-                upper: reference.upper,
-            },
+/// The classes, each with the numbers of its features.
+fn resolved_classes(alloc: Global, classes: &[WrittenClass]) -> Result<List<Class>, AllocError>
+    requires few { length classes.now ≤ 256 }
+    requires small { All (λ class. length class.references ≤ 64) classes.now }
+    ensures { IfOk result (λ made. made ≡ spec.classes_from 0 classes.now) }
+{
+    let mut made = List::new(alloc);
+    let mut first = 0;
+    for class in classes {
+        let count = class.references.len() as u16;
+        made.push(Class {
+            name: class.name.clone()?,
+            is_abstract: false,
+            supers: List::new(alloc),
+            features: numbers(alloc, first, count)?,
         })?;
+        first += count;
     }
-    meta.classes.push(Class {
-        name: class.name.clone()?,
-        is_abstract: false,
-        supers: List::new(alloc),
-        features,
-    })?;
+    Ok(made)
+}
+
+/// So many numbers from the first on.
+#[tactic(auto, using(crate::proofs::Lists::range_push))]
+fn numbers(alloc: Global, first: u16, count: u16) -> Result<List<FeatureNo>, AllocError>
+    requires { first + count < 2 ^ 16 }
+    ensures { IfOk result (λ made. made ≡ range_with_len first count) }
+{
+    let mut made = List::new(alloc);
+    for i in 0..count {
+        made.push(first + i)?;
+    }
+    Ok(made)
+}
+
+/// The features of all classes, class by class.
+fn resolved_features(alloc: Global, classes: &[WrittenClass]) -> Result<List<Feature>, AllocError>
+    requires { length classes.now ≤ 256 }
+    ensures { IfOk result (λ made. made ≡ spec.features_from (spec.class_names classes.now) 0 classes.now) }
+{
+    let mut made = List::new(alloc);
+    for (i, class) in classes.iter().enumerate() {
+        add_features(classes, i as u16, class.references.as_slice(), &mut made)?;
+    }
+    Ok(made)
+}
+
+/// Adds the features of the owner's references.
+fn add_features(
+    classes: &[WrittenClass],
+    owner: u16,
+    references: &[WrittenReference],
+    made: &mut List<Feature>,
+) -> Result<(), AllocError>
+    requires { length classes.now ≤ 256 }
+    ensures { OnOk result (made.new ≡ made.old ++ map (spec.feature_of (spec.class_names classes.now) owner) references.now) }
+{
+    for reference in references {
+        made.push(feature_of(classes, owner, reference)?)?;
+    }
     Ok(())
 }
 
-/// Whether a reference before the i-th has this name.
-fn is_named_before(references: &[WrittenReference], i: usize, name: &Text) -> bool {
-    references.iter().take(i).any(|r| r.name == *name)
+/// The feature that a reference of the owner is.
+fn feature_of(
+    classes: &[WrittenClass],
+    owner: u16,
+    reference: &WrittenReference,
+) -> Result<Feature, AllocError>
+    requires { length classes.now ≤ 256 }
+    ensures { IfOk result (λ feature. feature ≡ spec.feature_of (spec.class_names classes.now) owner reference.now) }
+{
+    Ok(Feature {
+        owner,
+        name: reference.name.clone()?,
+        kind: FeatureKind::Reference {
+            target: class_number(classes, &reference.target),
+            containment: false,
+            lower: 0,
+            upper: upper_of(reference.upper),
+        },
+    })
 }
 
-/// The place of the class of this name.
-fn place_of(classes: &List<WrittenClass>, name: &Text) -> Result<usize, BundleFault> {
-    classes
-        .iter()
-        .position(|class| class.name == *name)
-        .ok_or(BundleFault::NotBuilt)
+/// The number of the class of this name, or how many classes there are.
+#[tactic(auto, using(crate::proofs::Lists::place_or_len))]
+fn class_number(classes: &[WrittenClass], name: &Text) -> u16
+    requires { length classes.now ≤ 256 }
+    ensures { result ≡ position_or_len (same_text name.now) (spec.class_names classes.now) }
+{
+    let place = place_of(classes, name.as_str()).unwrap_or(classes.len());
+    place as u16
 }
 
-/// A place as a number of 16 bits.
-fn number(place: usize) -> Result<u16, BundleFault> {
-    u16::try_from(place).map_err(|_| BundleFault::NotBuilt)
-}
-
-/// The class of this name.
-pub fn class_named(meta: &Meta, name: &str) -> Option<ClassNo> {
-    let place = meta.classes.iter().position(|c| c.name.as_str() == name)?;
-    u16::try_from(place).ok()
-}
-
-/// The target class of the reference that this feature is.
-pub fn target_of(meta: &Meta, feature: FeatureNo) -> Option<ClassNo> {
-    match &meta.features.get(usize::from(feature))?.kind {
-        FeatureKind::Reference { target, .. } => Some(*target),
-        FeatureKind::Attribute { .. } => None,
+/// An upper bound as a number, none where it is unbounded.
+fn upper_of(upper: i64) -> Option<u64>
+    ensures { result ≡ spec.upper_of upper }
+{
+    if upper < 0 {
+        None
+    } else {
+        Some(upper.unsigned_abs())
     }
 }
