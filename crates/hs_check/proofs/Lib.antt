@@ -1,0 +1,6 @@
+pub mod Collected
+pub mod Sizes
+pub mod Steps
+pub mod Texts
+pub mod Meant
+pub mod Formed

@@ -1,0 +1,6 @@
+use Rattle.hs_check.proofs.Formed.{built}
+use Rattle.hs_check.proofs.Meant.{meant}
+use Rattle.hs_check.proofs.laws.rules_are_built.Goals as goal
+
+pub returns : goal.returns
+returns c = λ m text rule is. built m rule (meant m is.0 rule is.2)

@@ -1,0 +1,13 @@
+use Rattle.std.proofs.Common.{Err, ap, sym}
+use Rattle.std.specs.Str.{chars}
+use Rattle.hs_check.specs.Answers.{Gives}
+use Rattle.hs_check.specs.Meaning.{rule_of}
+use Rattle.hs_check.proofs.Texts.{no-rule}
+use Rattle.hs_check.proofs.read_rule.Goals as goal
+
+pub returns-in_err-syntax-clause-not_built : goal.returns-in_err-syntax-clause-not_built
+returns-in_err-syntax-clause-not_built c = λ e rule is. let told = rw e at c.from_residual.ensures in c.in_err-syntax.ensures.not_built (ap Err (sym told.1)) is.0 is.1
+
+pub returns-clause-not_built : goal.returns-clause-not_built
+returns-clause-not_built c = λ e rule is.
+    no-rule (chars c.args.text.now) c.args.meta.now c.in_ok-syntax.syntax c.in_ok-syntax.ensures.ok (rw e at c.rule_of.ensures) rule is.0 is.1 is.2

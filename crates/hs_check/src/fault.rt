@@ -1,0 +1,53 @@
+ghost use Rattle.hs_check.specs.Answers.{Gives};
+ghost use Rattle.hs_check.specs.Steps.{demand};
+
+use std::alloc::{AllocError, AllocFailed};
+
+/// Why no rule is given.
+#[derive(Clone, Copy, PartialEq, Eq, Debug)]
+pub enum RuleFault {
+    /// The text means no rule of the form that is built.
+    NotBuilt,
+    /// Memory was wanting.
+    NoMemory,
+}
+
+impl From<AllocError> for RuleFault {
+    ghost use Rattle.std.specs.Prelude.{◌≡◌};
+    ghost use Rattle.hs_check.specs.declared.fault.RuleFault.TheVariants.{NoMemory};
+
+    ghost from_gives = { λ _ e. e ≡ NoMemory };
+
+    fn from(_error: AllocError) -> RuleFault {
+        RuleFault::NoMemory
+    }
+}
+
+impl<T: Drop> From<AllocFailed<T>> for RuleFault {
+    ghost use Rattle.std.specs.Prelude.{◌≡◌};
+    ghost use Rattle.hs_check.specs.declared.fault.RuleFault.TheVariants.{NoMemory};
+
+    ghost from_gives = { λ _ e. e ≡ NoMemory };
+
+    fn from(_error: AllocFailed<T>) -> RuleFault {
+        RuleFault::NoMemory
+    }
+}
+
+/// Goes on where the test is true.
+pub fn demand(test: bool) -> Result<(), RuleFault>
+    ensures { Gives result (demand test) }
+{
+    if test {
+        Ok(())
+    } else {
+        Err(RuleFault::NotBuilt)
+    }
+}
+
+/// Goes on with the value, where there is one.
+pub fn needed<T>(value: Option<T>) -> Result<T, RuleFault>
+    ensures { Gives result value }
+{
+    value.ok_or(RuleFault::NotBuilt)
+}

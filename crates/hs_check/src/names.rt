@@ -1,0 +1,73 @@
+ghost use Rattle.std.specs.Prelude.{◌≡◌, ◌≤◌, find, length};
+ghost use Rattle.std.specs.List.{position};
+ghost use Rattle.hs_types.specs.Lists.{same_text};
+ghost use Rattle.hs_types.specs.Metamodel.{feature_at, features_of, target_of};
+ghost use Rattle.hs_check.specs.Names.{class_named, feature_named, is_named, node_named};
+
+use hs_expr::Text;
+use hs_types::{ClassNo, FeatureKind, FeatureNo, Meta, PatternNode};
+
+/// The first class of this name.
+pub fn class_named(meta: &Meta, name: &Text) -> Option<ClassNo>
+    ensures { result ≡ class_named meta.now name.now }
+{
+    let place = class_place(meta, name)?;
+    u16::try_from(place).ok()
+}
+
+fn class_place(meta: &Meta, name: &Text) -> Option<usize>
+    ensures { result ≡ position (λ class. same_text class.name name.now) meta.now.classes }
+{
+    meta.classes.iter().position(|class| class.name == *name)
+}
+
+/// The first node of this name.
+pub fn node_named(nodes: &[PatternNode], name: &Text) -> Option<u16>
+    requires { length nodes.now ≤ 12 }
+    ensures { result ≡ node_named nodes.now name.now }
+{
+    let place = node_place(nodes, name)?;
+    Some(place as u16)
+}
+
+fn node_place(nodes: &[PatternNode], name: &Text) -> Option<usize>
+    ensures { result ≡ node_named nodes.now name.now }
+{
+    nodes.iter().position(|node| node.name == *name)
+}
+
+/// The first of the class's features that has this name.
+pub fn feature_named(meta: &Meta, class: ClassNo, name: &Text) -> Option<FeatureNo>
+    ensures { result ≡ feature_named meta.now class name.now }
+{
+    let class = meta.classes.get(usize::from(class))?;
+    first_named(meta, class.features.as_slice(), name)
+}
+
+fn first_named(meta: &Meta, features: &[FeatureNo], name: &Text) -> Option<FeatureNo>
+    ensures { result ≡ find (is_named meta.now name.now) features.now }
+{
+    features
+        .iter()
+        .copied()
+        .find(|feature| is_named(meta, name, *feature))
+}
+
+fn is_named(meta: &Meta, name: &Text, feature: FeatureNo) -> bool
+    ensures { result ≡ is_named meta.now name.now feature }
+{
+    match meta.features.get(usize::from(feature)) {
+        Some(feature) => feature.name == *name,
+        None => false,
+    }
+}
+
+/// The class that a reference leads to.
+pub fn target_of(meta: &Meta, feature: FeatureNo) -> Option<ClassNo>
+    ensures { result ≡ target_of meta.now feature }
+{
+    match &meta.features.get(usize::from(feature))?.kind {
+        FeatureKind::Reference { target, .. } => Some(*target),
+        FeatureKind::Attribute { .. } => None,
+    }
+}
