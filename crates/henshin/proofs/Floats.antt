@@ -26,8 +26,8 @@ use Rattle.hs_types.specs.declared.request.Arg.TheVariants as arg
 use Rattle.hs_types.specs.declared.request.Args.{Args}
 use Rattle.hs_types.specs.declared.unit.RuleSet.{RuleSet}
 use Rattle.hs_types.specs.Metamodel.{features_of}
-use Rattle.henshin.specs.declared.report.Out.{Out}
-use Rattle.henshin.specs.declared.report.Reply.{Reply}
+use Rattle.hs_session.specs.declared.report.Out.{Out}
+use Rattle.hs_session.specs.declared.report.Reply.{Reply}
 use Rattle.henshin.specs.ReportText.{Member, with_members, object_data, list_data, number_data, value_data, arg_data, args_data, attrs_data, extension_members, extension_data, gone_members, gone_data, outcome_members, tried_members, what_members, place_members, entry_data, outs_data, reply_members, reply_data, feature_name, targets_of, edges_from, name_in, reference_member, refs_members, object_members, object_line, graph_members, graph_data}
 
 abbrev pub HaveNone : List Member → Type 0

@@ -1,8 +1,12 @@
 -- How a run of the program ends, and what it leaves in the sink.
-use Rattle.std.specs.Prelude.{ℕ, ◌≡◌, List, ◌++◌, Option}
+use Rattle.std.specs.Prelude.{ℕ, ◌≡◌, List, ◌++◌, Option, IfSome}
 use Rattle.std.specs.Io.KnownBytes.{Appends}
+use Rattle.hs_types.specs.declared.unit.RuleSet.{RuleSet}
+use Rattle.hs_session.specs.declared.report.Report.{Report}
 use Rattle.henshin.specs.declared.status.Status.{Status}
 use Rattle.henshin.specs.declared.status.Status.TheVariants as status
+use Rattle.henshin.specs.Bundle.{IsServed}
+use Rattle.henshin.specs.ReportText.{report_text}
 
 -- The run came to its writing.
 abbrev pub IsWritten : Status → Type 0
@@ -33,3 +37,11 @@ abbrev pub Writes : Status → List ℕ → Option (List ℕ) → Option (List �
 Writes status.Done text old new = Appends old new text
 Writes status.WriteFault text old new = GainsFront text old new
 Writes _ text old new = ⊥
+
+-- A run that came to its writing: the bytes are those that the source had left, where it tells them; the report is the serial report of the bundle that they are; and it was written.
+pub record IsRun (ending : Status) (report : Report) (left old new : Option (List ℕ)) : Type 0 where
+  pub bytes : List ℕ
+  pub rules : RuleSet
+  pub all_that_was_left : IfSome left (λ told. told ≡ bytes)
+  pub is_served : IsServed bytes rules report
+  pub is_written : Writes ending (report_text rules report) old new

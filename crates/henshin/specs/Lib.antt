@@ -1,3 +1,4 @@
+pub mod Bundle
 pub mod Ending
+pub mod Refusing
 pub mod ReportText
-pub mod Room

@@ -28,11 +28,11 @@ use Rattle.hs_types.specs.declared.request.Args.{Args}
 use Rattle.hs_types.specs.declared.unit.RuleSet.{RuleSet}
 use Rattle.hs_types.specs.Metamodel.{features_of}
 use Rattle.hs_types.specs.TypedGraph.{name_at}
-use Rattle.henshin.specs.declared.report.Out.{Out}
-use Rattle.henshin.specs.declared.report.Reply.{Reply}
-use Rattle.henshin.specs.declared.report.Report.{Report}
-use Rattle.henshin.specs.declared.report.Word.{Word}
-use Rattle.henshin.specs.declared.report.Word.TheVariants as word
+use Rattle.hs_session.specs.declared.report.Out.{Out}
+use Rattle.hs_session.specs.declared.report.Reply.{Reply}
+use Rattle.hs_session.specs.declared.report.Report.{Report}
+use Rattle.hs_session.specs.declared.report.Word.{Word}
+use Rattle.hs_session.specs.declared.report.Word.TheVariants as word
 
 -- A member of an object: its key and its value.
 abbrev pub Member : Type 0

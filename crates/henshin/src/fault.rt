@@ -1,5 +1,6 @@
 ghost use Rattle.std.specs.Prelude.{◌↔◌, IsTrue, IsOk};
 
+use hs_check::RuleFault;
 use hs_json::BundleFault;
 use std::alloc::{AllocError, AllocFailed};
 
@@ -33,10 +34,29 @@ impl<T: Drop> From<AllocFailed<T>> for Refusal {
 }
 
 impl From<BundleFault> for Refusal {
+    ghost use Rattle.std.specs.Prelude.{◌≡◌};
+    ghost use Rattle.henshin.specs.Refusing.{of_bundle};
+
+    ghost from_gives = { λ fault refusal. refusal ≡ of_bundle fault };
+
     fn from(fault: BundleFault) -> Refusal {
         match fault {
             BundleFault::NotBuilt => Refusal::NotBuilt,
             BundleFault::NoMemory => Refusal::NoMemory,
+        }
+    }
+}
+
+impl From<RuleFault> for Refusal {
+    ghost use Rattle.std.specs.Prelude.{◌≡◌};
+    ghost use Rattle.henshin.specs.Refusing.{of_rule};
+
+    ghost from_gives = { λ fault refusal. refusal ≡ of_rule fault };
+
+    fn from(fault: RuleFault) -> Refusal {
+        match fault {
+            RuleFault::NotBuilt => Refusal::NotBuilt,
+            RuleFault::NoMemory => Refusal::NoMemory,
         }
     }
 }

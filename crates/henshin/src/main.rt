@@ -1,11 +1,9 @@
 //! `henshin`: rule-based change of a typed graph, from the command line.
 //!
-//! [`once`](once::once) is the program over any source and sink; `main` hands it the real ones. The
-//! way of `apply`: the source is read to its end ([`reading`]), the bundle's rule text becomes a rule
-//! ([`words`], [`rule_text`], [`resolving`]), the rule is matched and the step made ([`serial`],
-//! [`step`]), the report becomes a text ([`report`], [`lines`],
-//! [`graph_line`]), and the text is written
-//! ([`writing`]).
+//! [`once`](once::once) is the program over any source and sink; `main` hands it the real ones. The way
+//! of `apply`: the source is read to its end ([`reading`]), the bundle that the bytes are is read and
+//! its request run ([`serving`]), the report becomes a text ([`lines`], [`graph_line`]), and the text
+//! is written ([`writing`]).
 #![tactic(auto)]
 
 mod fault;
@@ -14,13 +12,8 @@ mod index;
 mod lines;
 mod once;
 mod reading;
-mod report;
-mod resolving;
-mod rule_text;
-mod serial;
+mod serving;
 mod status;
-mod step;
-mod words;
 mod writing;
 
 use hs_base::{SinkStd, SourceStd};

@@ -1,14 +1,15 @@
-ghost use Rattle.std.specs.Prelude.{◌≡◌, ◌≢◌, ◌↔◌, ◌<◌, ◌≤◌, List, [], ◌∷◌, Some, None, true, codes, length, map, string_bytes, IsTrue, IfSome, IsSome, IfOk};
+ghost use Rattle.std.specs.Prelude.{◌≡◌, ◌≢◌, ◌↔◌, ◌<◌, ◌≤◌, List, [], ◌∷◌, Some, None, true, codes, length, map, string_bytes, IsTrue, IfSome, IsSome, IfErr, IfOk};
 ghost use Rattle.hs_types.specs.declared.unit.RuleSet.{RuleSet};
-ghost use Rattle.henshin.specs.Ending.{IsRead, IsWritten, Writes};
+ghost use Rattle.henshin.specs.Bundle.{HasNoBundle, IsServed};
+ghost use Rattle.henshin.specs.Ending.{IsRead, IsRun, IsWritten};
 ghost use Rattle.henshin.specs.ReportText.{report_text};
 ghost use Rattle.hs_base.specs.Faults.{one_more};
 
 use crate::fault::Refusal;
 use crate::lines::report_text;
 use crate::reading::{ReadError, read_all};
-use crate::report::Report;
-use crate::serial::serve;
+use hs_session::Report;
+use crate::serving::serve;
 use crate::status::Status;
 use crate::writing::write_all;
 use hs_base::{Sink, Source};
@@ -48,9 +49,11 @@ pub fn once<S: Source, K: Sink>(
     ensures write_fault { result.status ≡ Status.WriteFault → (K.failed sink.new ≡ true) × (K.faults sink.new ≡ one_more (K.faults sink.old)) }
     ensures sink_well { result.status ≢ Status.WriteFault → K.faults sink.new ≡ K.faults sink.old }
 
-    // What was written: the text of the report, or a front of it.
+    // What was read and written: the serial report of the bundle that the bytes are, or a front of
+    // its text; nothing where they are no bundle.
     ensures report { IsSome result.report ↔ IsWritten result.status }
-    ensures text { IfSome result.report (λ report. (rules : RuleSet) × Writes result.status (report_text rules report) (K.written sink.old) (K.written sink.new)) }
+    ensures serial { IfSome result.report (λ report. IsRun result.status report (S.left source.old) (K.written sink.old) (K.written sink.new)) }
+    ensures not_built { result.status ≡ Status.NotBuilt → IfSome (S.left source.old) HasNoBundle }
 {
     if !is_apply(words) {
         return refused(Status::Usage);
@@ -78,7 +81,8 @@ pub fn once<S: Source, K: Sink>(
 
 /// The report of the bundle that the bytes are, and its text.
 fn reported(alloc: Global, bytes: &[u8]) -> Result<(Report, Text), Refusal>
-    ensures { IfOk result (λ made. (rules : RuleSet) × (made.1 ≡ report_text rules made.0)) }
+    ensures made { IfOk result (λ made. (rules : RuleSet) × IsServed bytes.now rules made.0 × (made.1 ≡ report_text rules made.0)) }
+    ensures not_built { IfErr result (λ refusal. refusal ≡ Refusal.NotBuilt → HasNoBundle bytes.now) }
 {
     let served = serve(alloc, bytes)?;
     let text = report_text(alloc, &served.rules, &served.report)?;
