@@ -70,7 +70,8 @@ unfolding meant_meta
 feature-sound classes owner r stands fits = (within, bounded r.upper fits) where
   within : position_or_len (same_text r.target) (class_names classes) < length (classes_from 0 classes)
   within = let below : position_or_len (same_text r.target) (class_names classes) < length (class_names classes) = ltb-true _ _ (below_any (same_text r.target) (class_names classes) ∙ stands) in
-    omega (arith, length-classes 0 classes, length-mapped (λ (class : WrittenClass). class.name) classes)
+      omega (arith, length-classes 0 classes, length-mapped (λ (class : WrittenClass). class.name) classes)
+
   bounded : (upper : ℤ) → bound_fits upper ≡ true → IfSome (upper_of upper) (λ most. (0 < most) × (0 ≤ most))
   bounded (pos n) e = (ltb-true 0 n e, omega arith)
   bounded (negsuc n) e = tt
