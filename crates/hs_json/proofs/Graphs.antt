@@ -13,11 +13,11 @@ use Rattle.hs_json.specs.declared.written.WrittenObject.{WrittenObject}
 use Rattle.hs_json.specs.GraphMeaning.{all_links, class_of, edges_from, graph_of, meant_graph, objects_from}
 use Rattle.hs_json.proofs.Parts.{Meant, graph_parts}
 
-length-objects : (m : Meta) (n : ℕ) (objects : List WrittenObject) → length (objects_from m n objects) ≡ length objects
+pub length-objects : (m : Meta) (n : ℕ) (objects : List WrittenObject) → length (objects_from m n objects) ≡ length objects
 length-objects m n [] = refl
 length-objects m n (object ∷ objects) = ap suc (length-objects m (n + 1) objects)
 
-length-edges : (n : ℕ) (links : List Link) → length (edges_from n links) ≡ length links
+pub length-edges : (n : ℕ) (links : List Link) → length (edges_from n links) ≡ length links
 length-edges n [] = refl
 length-edges n (link ∷ links) = ap suc (length-edges (n + 1) links)
 

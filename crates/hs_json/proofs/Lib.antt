@@ -1,7 +1,10 @@
+pub mod Features
 pub mod Graphs
+pub mod IsMeta
 pub mod Lists
 pub mod Members
 pub mod Meant
 pub mod Metas
+pub mod Opening
 pub mod Parts
 pub mod Places

@@ -37,6 +37,9 @@ names-classes first (class ∷ classes) = ap (λ names. class.name ∷ names) (n
 pub All-at : {A : Type 0} (P : A → Type 0) (xs : List A) (i : ℕ) (x : A) → All P xs → slice_get xs i ≡ Some x → P x
 All-at P xs i x a e = subst P (get_or_from_slice_get xs i x x e) (a i x (slice_get_within xs i x e))
 
+pub weaker : {A : Type 0} (P Q : A → Type 0) (xs : List A) → ((x : A) → P x → Q x) → All P xs → All Q xs
+weaker P Q xs h a = λ k d l. h (get_or xs k d) (a k d l)
+
 -- Where the fact holds of an item, there is one.
 pub item_at : {A : Type 0} (P : A → Type 0) (o : Option A) → IsSomeAnd o P → (x : A) × (o ≡ Some x) × P x
 item_at P None h = absurd h
@@ -64,13 +67,14 @@ Differ-somes (t ∷ ts) d = (All-somes t ts d.0, Differ-somes ts d.1)
 
 -- ---- features
 
-feature-sound : (classes : List WrittenClass) (owner : ℕ) (r : WrittenReference) → list_any (same_text r.target) (class_names classes) ≡ true → bound_fits r.upper ≡ true →
+pub feature-sound : (classes : List WrittenClass) (owner : ℕ) (r : WrittenReference) → list_any (same_text r.target) (class_names classes) ≡ true → bound_fits r.upper ≡ true →
     FeatureFits (meant_meta classes) (feature_of (class_names classes) owner r).kind
 unfolding meant_meta
 feature-sound classes owner r stands fits = (within, bounded r.upper fits) where
   within : position_or_len (same_text r.target) (class_names classes) < length (classes_from 0 classes)
   within = let below : position_or_len (same_text r.target) (class_names classes) < length (class_names classes) = ltb-true _ _ (below_any (same_text r.target) (class_names classes) ∙ stands) in
-    omega (arith, length-classes 0 classes, length-mapped (λ (class : WrittenClass). class.name) classes)
+      omega (arith, length-classes 0 classes, length-mapped (λ (class : WrittenClass). class.name) classes)
+
   bounded : (upper : ℤ) → bound_fits upper ≡ true → IfSome (upper_of upper) (λ most. (0 < most) × (0 ≤ most))
   bounded (pos n) e = (ltb-true 0 n e, omega arith)
   bounded (negsuc n) e = tt
@@ -89,3 +93,9 @@ meant-plain classes = record { format = refl; concrete = λ k d h. (classes-plai
 
 pub meta-plain : (d : Data) (m : Meta) → meta_of d ≡ Some m → IsPlain m
 meta-plain d m e = let parts = meta_parts d m e in subst IsPlain parts.2 (meant-plain parts.0)
+
+-- What a graph's metamodel has where classes are concrete and own references alone.
+pub record IsFlat (m : Meta) : Type 0 where
+  pub concrete : All (λ class. class.is_abstract ≡ false) m.classes
+  pub references : All (λ feature. is_attribute feature ≡ false) m.features
+  pub differ : All (λ class. Differ class.features) m.classes

@@ -69,7 +69,7 @@ graph_parts m d g e =
       classes = demanded _ l.0 l.1;
       targets = demanded _ o.0 o.1;
       joined = demanded _ p.0 p.1;
-      is = same_Some _ g p.2
+      is = same_Some _ g p.2;
     }
 
 -- Each part is read of a value.

@@ -56,7 +56,7 @@ place_more xs y name none =
     ∙ ap (λ b. cond (ltb (position_or_len (same_text name) xs) (length xs)) (Some (position_or_len (same_text name) xs)) (cond b (Some (length xs)) None)) (nat_list_eq_equiv.symm name y)
     ∙ later_or_new _ (same_text y name) (position_or_len (same_text name) xs) (length xs) absent
 
-or_true : (a : Bool) → (a || true) ≡ true
+pub or_true : (a : Bool) → (a || true) ≡ true
 or_true true = refl
 or_true false = refl
 

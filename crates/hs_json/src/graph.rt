@@ -16,7 +16,7 @@ use crate::names::is_object_name;
 use crate::numbers::{classes_of, numbers_of};
 use crate::written::{Link, WrittenObject};
 use hs_expr::List;
-use hs_types::{ClassNo, Edge, Graph, Meta, Object};
+use hs_types::{ClassNo, Edge, EdgeNo, Graph, Meta, Object};
 use serde_json::Value;
 use std::alloc::{AllocError, Global};
 
@@ -94,12 +94,19 @@ fn numbered_edges(alloc: Global, links: &[Link]) -> Result<List<Edge>, AllocErro
 {
     let mut made = List::new(alloc);
     for (i, link) in links.iter().enumerate() {
-        made.push(Edge {
-            number: i as u32,
-            source: link.source,
-            reference: link.reference,
-            target: link.target,
-        })?;
+        made.push(edge_of(i as u32, link))?;
     }
     Ok(made)
+}
+
+/// The edge of this number that a link is.
+fn edge_of(number: EdgeNo, link: &Link) -> Edge
+    ensures { result ≡ record { number = number; source = link.now.source; reference = link.now.reference; target = link.now.target } }
+{
+    Edge {
+        number,
+        source: link.source,
+        reference: link.reference,
+        target: link.target,
+    }
 }

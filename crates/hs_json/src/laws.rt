@@ -2,6 +2,8 @@
 
 ghost use Rattle.std.specs.Prelude.{◌≡◌, ◌≤◌, [], ℕ, List, false, length};
 ghost use Rattle.std.specs.List.{All};
+ghost use Rattle.hs_types.specs.Metamodel.{IsMeta};
+ghost use Rattle.hs_types.specs.TypedGraph.{IsOpening};
 ghost use Rattle.hs_json.specs.BundleForm.{Contents, Spells};
 ghost use Rattle.hs_json.specs.SessionForm.{IsSingleCall};
 
@@ -27,4 +29,14 @@ pub fn graphs_are_small()
 /// There is one session, with one request, which has no arguments and isn't a group.
 pub fn sessions_are_single()
     ensures { (bytes : List ℕ) (held : Contents) → Spells bytes held → IsSingleCall held.sessions }
+{}
+
+/// A metamodel that is read is a metamodel.
+pub fn metas_are_metamodels()
+    ensures { (bytes : List ℕ) (held : Contents) → Spells bytes held → IsMeta held.meta }
+{}
+
+/// A graph that is read is one from which a journal begins, over the metamodel beside it.
+pub fn graphs_are_opening()
+    ensures { (bytes : List ℕ) (held : Contents) → Spells bytes held → IsOpening held.meta held.graph }
 {}

@@ -26,3 +26,6 @@ mod written;
 pub use bundle::{Bundle, read_bundle};
 pub use fault::BundleFault;
 pub use names::is_identifier;
+
+#[cfg(test)]
+mod tests;
