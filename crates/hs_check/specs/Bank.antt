@@ -38,6 +38,16 @@ node mark name class = item.Simple (simple.Marked mark (element.Node (named name
 abbrev pub edge : WrittenMark → List ℕ → List ℕ → List ℕ → Item
 edge mark source target reference = item.Simple (simple.Marked mark (element.Edge (named source) (named target) (named reference)))
 
+-- A client c, an account a, and c's account a.
+abbrev pub client : WrittenMark → Item
+client mark = node mark (codes "c") (codes "Client")
+
+abbrev pub account : WrittenMark → Item
+account mark = node mark (codes "a") (codes "Account")
+
+abbrev pub owned : WrittenMark → Item
+owned mark = edge mark (codes "c") (codes "a") (codes "accounts")
+
 -- The rule `r` with these items.
 abbrev pub written : List Item → WrittenRule
 written items = record { name = named (codes "r"); params = []; items = items }

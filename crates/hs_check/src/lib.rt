@@ -43,7 +43,8 @@ pub fn read_rule(alloc: Global, meta: &Meta, text: &str) -> Result<Rule, RuleFau
 
 fn syntax_of(alloc: Global, text: &str) -> Result<Syntax, RuleFault>
     ensures ok { IfOk result (IsSyntaxOf (chars text.now)) }
-    ensures not_built { IsErrOf result RuleFault.NotBuilt → (syntax : Syntax) → IsSyntaxOf (chars text.now) syntax → ⊥ }
+    ensures not_built { IsErrOf result RuleFault.NotBuilt
+        → (syntax : Syntax) → IsSyntaxOf (chars text.now) syntax → ⊥ }
 {
     match parse(alloc, text) {
         Ok(syntax) => Ok(syntax),
