@@ -1,11 +1,9 @@
-use Rattle.std.proofs.Common.{ℕ, suc, ◌<◌, ◌≤◌, ◌≡◌, List, [], ◌∷◌, ◌++◌, Bool, true, false, ◌&&◌, ◌||◌, not, eqb, nat_lt, nat_le, nat_eq, cond, Option, Some, None, IsSomeAnd, length, map, slice_get, refl, ap, sym, subst, inl, inr, ◌∙◌, arith, rules}
-use Rattle.std.proofs.lemmas.Grind.{common_steps}
+use Rattle.std.proofs.Common.{ℕ, ◌<◌, ◌≤◌, ◌≡◌, List, [], ◌∷◌, ◌++◌, Bool, true, false, ◌&&◌, ◌||◌, not, eqb, nat_lt, nat_le, cond, Option, Some, IsSomeAnd, length, map, slice_get, refl, ap, sym, subst, inl, inr, ◌∙◌, arith, rules}
 use Rattle.std.proofs.lemmas.List.{append-nil}
-use Rattle.std.proofs.lemmas.List.Elements.{All-nil, All-cons, All-head, All-tail, All-weaker}
+use Rattle.std.proofs.lemmas.List.Elements.{All-nil, All-cons, All-head, All-tail}
 use Rattle.std.proofs.lemmas.Option.{cond_some, slice_get_cases}
 use Rattle.std.proofs.lemmas.Bool.{ltb-true}
 use Rattle.std.specs.List.{All, find, list_all, list_any, position, position_or_len, filter_map, cons_option}
-use Rattle.std.specs.Option.{option_map, option_and_then}
 use Rattle.hs_expr.specs.Equality.{lists_exact, nat_exact}
 use Rattle.hs_text.specs.declared.syntax.Element.TheVariants as element
 use Rattle.hs_text.specs.declared.syntax.Item.{Item}
@@ -18,14 +16,13 @@ use Rattle.hs_types.specs.declared.rule.PatternEdge.{PatternEdge}
 use Rattle.hs_types.specs.declared.rule.PatternNode.{PatternNode}
 use Rattle.hs_types.specs.declared.rule.Rule.{Rule}
 use Rattle.hs_types.specs.Limits.{IsSmallRule, parallel_to}
-use Rattle.hs_types.specs.Lists.{has, same_text, map_all, Differ, EachPair}
-use Rattle.hs_types.specs.Metamodel.{Conforms, HaveCommon, IsConcrete, features_of, target_of}
-use Rattle.hs_types.specs.Pattern.{is_drop, is_make}
-use Rattle.hs_types.specs.RuleForm.{EdgeFits, EndFits, IsBlock, IsRule, NodeFits, all_nodes, joins}
+use Rattle.hs_types.specs.Lists.{has, same_text, map_all, Differ}
+use Rattle.hs_types.specs.Metamodel.{Conforms, IsConcrete, features_of, target_of}
+use Rattle.hs_types.specs.Pattern.{is_drop}
+use Rattle.hs_types.specs.RuleForm.{EdgeFits, IsRule, NodeFits, all_nodes, joins}
 use Rattle.hs_check.specs.Built.{AllConcrete, IsBuilt}
 use Rattle.hs_check.specs.Elements.{edge_of, names_differ, node_of}
 use Rattle.hs_check.specs.Names.{class_named, feature_named, is_named, node_named, number}
-use Rattle.hs_check.specs.Steps.{◌>>=◌, demand}
 use Rattle.hs_check.specs.Written.{WrittenEdge, WrittenNode, is_built, mark_of, written_edge, written_edges, written_node, written_nodes}
 use Rattle.hs_check.proofs.Meant.{Meant, rule_with}
 use Rattle.hs_check.proofs.Sizes.{few_edges, few_nodes, length-map_all}
@@ -53,13 +50,6 @@ neither true b h = absurd (cc)
 pub not-true : (b : Bool) → not b ≡ true → b ≡ false
 not-true false h = refl
 not-true true h = absurd (cc)
-
--- A test of each item that is true.
-pub All-list_all : {A : Type 0} (test : A → Bool) (xs : List A) → list_all test xs ≡ true → All (λ x. test x ≡ true) xs
-All-list_all test [] h = All-nil (λ x. test x ≡ true)
-All-list_all test (x ∷ xs) h =
-    let parts = both (test x) (list_all test xs) h in
-    All-cons (λ x. test x ≡ true) x xs parts.0 (All-list_all test xs parts.1)
 
 -- A rule that is built drops no node.
 abbrev StaysNode : WrittenNode → Type 0

@@ -1,4 +1,4 @@
-use Rattle.std.proofs.Common.{ℕ, ◌≡◌, List, [], true, Option, Some, sym}
+use Rattle.std.proofs.Common.{ℕ, ◌≡◌, List, [], true, Some, sym}
 use Rattle.hs_text.specs.declared.syntax.Rule.{Rule as WrittenRule}
 use Rattle.hs_text.specs.declared.syntax.Syntax.{Syntax}
 use Rattle.hs_types.specs.declared.meta.Meta.{Meta}

@@ -1,18 +1,18 @@
-use Rattle.std.proofs.Common.{ℕ, ◌≡◌, List, Option, Some, None, sym, subst, ap, ◌∙◌}
+use Rattle.std.proofs.Common.{ℕ, ◌≡◌, List, Some, None, sym, subst, ap, ◌∙◌}
 use Rattle.hs_tokens.specs.declared.token.Token.{Token}
 use Rattle.hs_tokens.specs.declared.fault.FaultKind.{FaultKind}
 use Rattle.hs_tokens.specs.declared.fault.FaultKind.TheVariants.{Character, Number, Order, End}
 use Rattle.hs_tokens.specs.declared.fault.TextFault.TheVariants.{Fault}
-use Rattle.hs_tokens.specs.Lexing.{Ending, Whole, TooLarge, Strange, EndsSo, IsTokenFault}
+use Rattle.hs_tokens.specs.Lexing.{Ending, Whole, EndsSo, IsTokenFault}
 use Rattle.hs_tokens.proofs.Lexed.{lexed-once}
 use Rattle.hs_text.specs.declared.syntax.Definition.{Definition}
 use Rattle.hs_text.specs.declared.syntax.Syntax.{Syntax}
 use Rattle.hs_text.specs.Grammar.{IsText}
-use Rattle.hs_text.specs.Parsing.{AreTokens, IsFirstWrong, IsSyntaxOf, IsTextFault, IsUnfinished}
+use Rattle.hs_text.specs.Parsing.{AreTokens, IsSyntaxOf, IsTextFault}
 use Rattle.hs_text.proofs.Judged.{no-wrong, one, text-right}
 use Rattle.hs_types.specs.declared.meta.Meta.{Meta}
 use Rattle.hs_types.specs.declared.rule.Rule.{Rule}
-use Rattle.hs_check.specs.Meaning.{IsRuleOf, meaning_of, rule_of}
+use Rattle.hs_check.specs.Meaning.{meaning_of, rule_of}
 use Rattle.hs_check.specs.Steps.{◌>>=◌}
 use Rattle.hs_check.specs.Written.{only_rule}
 use Rattle.hs_check.proofs.Steps.{Some-inside}

@@ -5,3 +5,4 @@ pub mod Elements
 pub mod Meaning
 pub mod Answers
 pub mod Built
+pub mod Bank

@@ -43,7 +43,8 @@ fn add_edge(
     item: &Item,
 ) -> Result<(), RuleFault>
     requires { length nodes.now ≤ 12 }
-    ensures { Leaves result edges.new (in_front edges.old (map_all (edge_of meta.now nodes.now) (written_edges (item.now ∷ [])))) }
+    ensures { Leaves result edges.new
+        (in_front edges.old (map_all (edge_of meta.now nodes.now) (written_edges (item.now ∷ [])))) }
 {
     if let Item::Simple(
         Simple::Marked {
@@ -72,7 +73,8 @@ fn edge_of(
     reference: &Name,
 ) -> Result<PatternEdge, RuleFault>
     requires { length nodes.now ≤ 12 }
-    ensures { Gives result (edge_of meta.now nodes.now (record { mark = mark; source = source.now; target = target.now; reference = reference.now })) }
+    ensures { Gives result (edge_of meta.now nodes.now
+        (record { mark = mark; source = source.now; target = target.now; reference = reference.now })) }
 {
     let mark = mark_of(mark);
     let source = needed(node_named(nodes, &source.text))?;
@@ -122,7 +124,8 @@ fn count_parallel(edge: &PatternEdge, edges: &[PatternEdge]) -> usize
 }
 
 fn is_parallel(other: &PatternEdge, edge: &PatternEdge) -> bool
-    ensures { result ≡ (eqb other.now.source edge.now.source && eqb other.now.reference edge.now.reference && eqb other.now.target edge.now.target) }
+    ensures { result ≡ (eqb other.now.source edge.now.source
+        && eqb other.now.reference edge.now.reference && eqb other.now.target edge.now.target) }
 {
     other.source == edge.source && other.reference == edge.reference && other.target == edge.target
 }

@@ -23,10 +23,12 @@ mod laws;
 mod meaning;
 mod names;
 mod nodes;
+#[cfg(test)]
+mod tests;
 mod written;
 
 pub use fault::RuleFault;
-pub use laws::{one_rule, rules_are_built, rules_are_formed};
+pub use laws::{one_rule, rules_are_built, rules_are_formed, rules_tried};
 
 /// The rule that the text means over the metamodel. Not built is answered only where it means none
 /// of the form that is built: it is no text of the grammar, has anything but one rule without
@@ -41,7 +43,8 @@ pub fn read_rule(alloc: Global, meta: &Meta, text: &str) -> Result<Rule, RuleFau
 
 fn syntax_of(alloc: Global, text: &str) -> Result<Syntax, RuleFault>
     ensures ok { IfOk result (IsSyntaxOf (chars text.now)) }
-    ensures not_built { IsErrOf result RuleFault.NotBuilt → (syntax : Syntax) → IsSyntaxOf (chars text.now) syntax → ⊥ }
+    ensures not_built { IsErrOf result RuleFault.NotBuilt
+        → (syntax : Syntax) → IsSyntaxOf (chars text.now) syntax → ⊥ }
 {
     match parse(alloc, text) {
         Ok(syntax) => Ok(syntax),

@@ -27,7 +27,8 @@ pub fn nodes_of(alloc: Global, meta: &Meta, items: &[Item]) -> Result<List<Patte
 
 /// Adds the node that the item declares, if it declares one.
 fn add_node(meta: &Meta, nodes: &mut List<PatternNode>, item: &Item) -> Result<(), RuleFault>
-    ensures { Leaves result nodes.new (in_front nodes.old (map_all (node_of meta.now) (written_nodes (item.now ∷ [])))) }
+    ensures { Leaves result nodes.new
+        (in_front nodes.old (map_all (node_of meta.now) (written_nodes (item.now ∷ [])))) }
 {
     if let Item::Simple(
         Simple::Marked {

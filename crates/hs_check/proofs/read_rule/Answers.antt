@@ -1,7 +1,5 @@
 use Rattle.std.proofs.Common.{Err, ap, sym}
 use Rattle.std.specs.Str.{chars}
-use Rattle.hs_check.specs.Answers.{Gives}
-use Rattle.hs_check.specs.Meaning.{rule_of}
 use Rattle.hs_check.proofs.Texts.{no-rule}
 use Rattle.hs_check.proofs.read_rule.Goals as goal
 
