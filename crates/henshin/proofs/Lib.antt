@@ -1,3 +1,4 @@
 pub mod Floats
 pub mod Known
 pub mod Lists
+pub mod Served

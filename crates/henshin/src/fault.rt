@@ -1,5 +1,3 @@
-ghost use Rattle.std.specs.Prelude.{◌↔◌, IsTrue, IsOk};
-
 use hs_check::RuleFault;
 use hs_json::BundleFault;
 use std::alloc::{AllocError, AllocFailed};
@@ -59,11 +57,4 @@ impl From<RuleFault> for Refusal {
             RuleFault::NoMemory => Refusal::NoMemory,
         }
     }
-}
-
-/// Goes on where the test holds.
-pub fn demand(test: bool) -> Result<(), Refusal>
-    ensures { IsOk result ↔ IsTrue test }
-{
-    if test { Ok(()) } else { Err(Refusal::NotBuilt) }
 }

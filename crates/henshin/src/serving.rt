@@ -5,9 +5,9 @@ ghost use Rattle.std.specs.Arc.{arc_value};
 ghost use Rattle.hs_types.specs.declared.request.Request.{Request};
 ghost use Rattle.henshin.specs.Bundle.{HasNoBundle, IsServed};
 
-use crate::fault::{Refusal, demand};
+use crate::fault::Refusal;
 use hs_check::read_rule;
-use hs_expr::List;
+use hs_expr::{Exact, List};
 use hs_json::{Bundle, read_bundle};
 use hs_session::{Report, run_serial};
 use hs_types::{Meta, Request, Rule, RuleSet};
@@ -35,7 +35,9 @@ pub fn serve(alloc: Global, bytes: &[u8]) -> Result<Served, Refusal>
     let Some(request) = only_request(&sessions) else {
         return Err(Refusal::NotBuilt);
     };
-    demand(request.call == rule.name)?;
+    if !calls(request, &rule) {
+        return Err(Refusal::NotBuilt);
+    }
     let rules = rule_set(alloc, &graph.meta, rule)?;
     let report = run_serial(alloc, graph, &rules, 0, request)?;
     Ok(Served { rules, report })
@@ -53,6 +55,12 @@ fn only_request(sessions: &List<List<Request>>) -> Option<&Request>
         return None;
     };
     Some(request)
+}
+
+fn calls(request: &Request, rule: &Rule) -> bool
+    ensures { IsTrue result ↔ (request.now.call ≡ rule.now.name) }
+{
+    request.call.is(&rule.name)
 }
 
 /// The set of this one rule over a metamodel.

@@ -65,7 +65,7 @@ objects_for-default m env n (node ∷ nodes) = elim (cases_Bool (is_make node.ma
   | inr e ↦ rw (e, objects_for-default m env (n + 1) nodes) refl
 ]
 
-few_left : {A : Type 0} (q : A → Bool) (xs : List A) → length (filter q xs) ≤ length xs
+pub few_left : {A : Type 0} (q : A → Bool) (xs : List A) → length (filter q xs) ≤ length xs
 few_left q [] = omega arith
 few_left q (x ∷ xs) = elim (cases_Bool (q x)) [
   | inl e ↦ rw e (omega (arith, few_left q xs))
