@@ -1,16 +1,15 @@
 -- A metamodel that is read is one.
-use Rattle.std.proofs.Common.{◌≡◌, ◌<◌, ◌+◌, ◌++◌, ℕ, zero, suc, List, [], ◌∷◌, Bool, true, false, eqb, map, length, Option, Some, IsSomeAnd, EachIndex, slice_get, refl, ap, sym, ◌∙◌, subst, arith, zero-add}
+use Rattle.std.proofs.Common.{◌≡◌, ◌<◌, ◌+◌, ◌++◌, ℕ, zero, suc, List, [], ◌∷◌, true, false, eqb, length, Option, Some, IsSomeAnd, refl, ap, sym, ◌∙◌, subst, arith, zero-add}
 use Rattle.std.specs.List.{All, list_all, flat_map, range_with_len}
 use Rattle.std.proofs.lemmas.Bool.{both_ways}
 use Rattle.std.proofs.lemmas.List.Elements.{All-nil, All-cons}
 use Rattle.serde_json.specs.Data.{Data}
 use Rattle.hs_types.specs.declared.meta.Class.{Class}
-use Rattle.hs_types.specs.declared.meta.Feature.{Feature}
 use Rattle.hs_types.specs.declared.meta.Meta.{Meta}
 use Rattle.hs_types.specs.Lists.{Differ, each_once, has, places_from}
-use Rattle.hs_types.specs.Metamodel.{Conforms, HasSuper, IsMeta, class_at, StandBefore, features_of, is_attribute, owned_by}
+use Rattle.hs_types.specs.Metamodel.{HasSuper, IsMeta, class_at, StandBefore, features_of, is_attribute, owned_by}
 use Rattle.hs_json.specs.declared.written.WrittenClass.{WrittenClass}
-use Rattle.hs_json.specs.MetaMeaning.{bounds_fit, class_names, classes_from, features_from, few_references, is_meant, meant_meta, meta_of, names_fit, references_differ, targets_stand}
+use Rattle.hs_json.specs.MetaMeaning.{bounds_fit, class_names, classes_from, features_from, is_meant, meant_meta, meta_of, references_differ, targets_stand}
 use Rattle.hs_json.specs.Names.{differ}
 use Rattle.hs_json.proofs.Features.{Owned, differ-classes, order-features, owned-features, pairs-at, sound-features, whole-class}
 use Rattle.hs_json.proofs.Lists.{left_true, right_true}
@@ -28,15 +27,14 @@ record Tests (classes : List WrittenClass) : Type 0 where
 tests : (classes : List WrittenClass) → is_meant classes ≡ true → Tests classes
 unfolding is_meant
 tests classes e =
-    let a = left_true _ (list_all few_references classes) e in
-    let b = left_true _ (list_all references_differ classes) a in
-    let c = left_true _ (list_all bounds_fit classes) b in
-    let d = left_true _ (list_all (targets_stand (class_names classes)) classes) c in
+    let a = left_true _ (list_all references_differ classes) e in
+    let b = left_true _ (list_all bounds_fit classes) a in
+    let c = left_true _ (list_all (targets_stand (class_names classes)) classes) b in
     record {
-      differ = right_true _ (differ (class_names classes)) d;
-      targets = right_true _ (list_all (targets_stand (class_names classes)) classes) c;
-      bounds = right_true _ (list_all bounds_fit classes) b;
-      references = right_true _ (list_all references_differ classes) a;
+      differ = right_true _ (differ (class_names classes)) c;
+      targets = right_true _ (list_all (targets_stand (class_names classes)) classes) b;
+      bounds = right_true _ (list_all bounds_fit classes) a;
+      references = right_true _ (list_all references_differ classes) e;
     }
 
 class-whole : (m : Meta) (c : ℕ) (o : Option Class) → o ≡ class_at m c → All (λ class. class.supers ≡ []) m.classes → IsSomeAnd o (λ class. class.features ≡ owned_by m c) →
