@@ -1,19 +1,17 @@
 -- The features that written classes mean: their owners, their order, and whose they are.
-use Rattle.std.proofs.Common.{◌≡◌, ◌≤◌, ◌<◌, ◌+◌, ◌++◌, ◌⊎◌, inl, inr, ℕ, zero, suc, List, [], ◌∷◌, Bool, true, false, not, eqb, cond, map, length, get_or, Option, Some, None, IsSomeAnd, EachIndex, slice_get, refl, ap, sym, ◌∙◌, subst, arith, append_assoc, append-nil, length-append, add-zero}
-use Rattle.std.specs.List.{All, AllPairs, list_all, list_any, range_with_len, flat_map}
+use Rattle.std.proofs.Common.{◌≡◌, ◌≤◌, ◌<◌, ◌+◌, ◌++◌, inl, inr, ℕ, zero, suc, List, [], ◌∷◌, Bool, true, false, eqb, cond, map, length, get_or, Option, Some, IsSomeAnd, slice_get, refl, ap, sym, ◌∙◌, subst, arith, append_assoc, append-nil, length-append, add-zero}
+use Rattle.std.specs.List.{All, AllPairs, list_all, list_any, range_with_len}
 use Rattle.std.specs.Option.{option_map}
 use Rattle.std.proofs.Math.Nat.{le_refl}
-use Rattle.std.proofs.lemmas.Bool.{both_ways, cases_Bool, cases_lt, eq-eqb, ne_eqb}
+use Rattle.std.proofs.lemmas.Bool.{both_ways, cases_lt, eq-eqb, ne_eqb}
 use Rattle.std.proofs.lemmas.List.Elements.{All-nil, All-cons, All-head, All-tail, All-append}
 use Rattle.hs_types.specs.declared.meta.Class.{Class}
 use Rattle.hs_types.specs.declared.meta.Feature.{Feature}
-use Rattle.hs_types.specs.declared.meta.Meta.{Meta}
-use Rattle.hs_types.specs.Lists.{Differ, EachPair, each_once, places_from, same_text}
+use Rattle.hs_types.specs.Lists.{Differ, EachPair, places_from, same_text}
 use Rattle.hs_types.specs.Metamodel.{FeatureFits, StandBefore, is_attribute}
 use Rattle.hs_json.specs.declared.written.WrittenClass.{WrittenClass}
 use Rattle.hs_json.specs.declared.written.WrittenReference.{WrittenReference}
 use Rattle.hs_json.specs.MetaMeaning.{bound_fits, bounds_fit, class_names, classes_from, feature_of, features_from, meant_meta, references_differ, targets_stand}
-use Rattle.hs_json.specs.Names.{differ}
 use Rattle.hs_json.proofs.Lists.{left_true, right_true, length-mapped}
 use Rattle.hs_json.proofs.Metas.{Differ-from_test, Differ-somes, feature-sound, item_at, weaker}
 

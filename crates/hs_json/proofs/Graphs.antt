@@ -1,17 +1,13 @@
 -- What is meant by written objects is an opening graph.
-use Rattle.std.proofs.Common.{◌≡◌, ◌≤◌, ◌<◌, ◌+◌, ◌++◌, ◌⊎◌, inl, inr, ℕ, zero, suc, List, [], ◌∷◌, Bool, true, false, not, leb, eqb, cond, map, length, get_or, Option, Some, None, IsSomeAnd, slice_get, refl, ap, sym, ◌∙◌, subst, arith, add-zero, add-one}
-use Rattle.std.specs.List.{All, find, flat_map, list_all, position_or_len, range_with_len}
-use Rattle.std.specs.Option.{option_map, option_and_then, unwrap_or}
-use Rattle.std.proofs.lemmas.Bool.{both_ways, leb-true, eq-eqb, eqb-true, ne_eqb}
+use Rattle.std.proofs.Common.{◌≡◌, ◌≤◌, ◌+◌, ℕ, suc, List, [], ◌∷◌, length, Some, refl, ap, subst}
+use Rattle.std.proofs.lemmas.Bool.{leb-true}
 use Rattle.serde_json.specs.Data.{Data}
-use Rattle.hs_types.specs.declared.graph.Edge.{Edge}
 use Rattle.hs_types.specs.declared.graph.Graph.{Graph}
-use Rattle.hs_types.specs.declared.graph.Object.{Object}
 use Rattle.hs_types.specs.declared.meta.Meta.{Meta}
 use Rattle.hs_json.specs.declared.written.Link.{Link}
 use Rattle.hs_json.specs.declared.written.WrittenObject.{WrittenObject}
-use Rattle.hs_json.specs.GraphMeaning.{all_links, class_of, edges_from, graph_of, meant_graph, objects_from}
-use Rattle.hs_json.proofs.Parts.{Meant, graph_parts}
+use Rattle.hs_json.specs.GraphMeaning.{all_links, edges_from, graph_of, meant_graph, objects_from}
+use Rattle.hs_json.proofs.Parts.{graph_parts}
 
 pub length-objects : (m : Meta) (n : ℕ) (objects : List WrittenObject) → length (objects_from m n objects) ≡ length objects
 length-objects m n [] = refl

@@ -1,20 +1,21 @@
 -- A metamodel that is read is one.
-use Rattle.std.proofs.Common.{◌≡◌, ◌<◌, ◌+◌, ◌++◌, ℕ, zero, suc, List, [], ◌∷◌, Bool, true, false, eqb, map, length, Option, Some, IsSomeAnd, EachIndex, slice_get, refl, ap, sym, ◌∙◌, subst, arith, zero-add}
+use Rattle.std.proofs.Common.{◌≡◌, ◌<◌, ◌≤◌, ◌+◌, ◌++◌, ℕ, zero, suc, List, [], ◌∷◌, true, false, eqb, length, Option, Some, IsSomeAnd, refl, ap, sym, ◌∙◌, subst, arith, zero-add}
 use Rattle.std.specs.List.{All, list_all, flat_map, range_with_len}
 use Rattle.std.proofs.lemmas.Bool.{both_ways}
-use Rattle.std.proofs.lemmas.List.Elements.{All-nil, All-cons}
+use Rattle.std.proofs.lemmas.List.Elements.{All-nil, All-cons, All-head, All-tail}
+use Rattle.std.proofs.lemmas.List.FromFn.{length-range_with_len}
 use Rattle.serde_json.specs.Data.{Data}
 use Rattle.hs_types.specs.declared.meta.Class.{Class}
-use Rattle.hs_types.specs.declared.meta.Feature.{Feature}
 use Rattle.hs_types.specs.declared.meta.Meta.{Meta}
 use Rattle.hs_types.specs.Lists.{Differ, each_once, has, places_from}
-use Rattle.hs_types.specs.Metamodel.{Conforms, HasSuper, IsMeta, class_at, StandBefore, features_of, is_attribute, owned_by}
+use Rattle.hs_types.specs.Limits.{IsSmallMeta}
+use Rattle.hs_types.specs.Metamodel.{HasSuper, IsMeta, class_at, StandBefore, features_of, is_attribute, owned_by}
 use Rattle.hs_json.specs.declared.written.WrittenClass.{WrittenClass}
-use Rattle.hs_json.specs.MetaMeaning.{bounds_fit, class_names, classes_from, features_from, few_references, is_meant, meant_meta, meta_of, names_fit, references_differ, targets_stand}
+use Rattle.hs_json.specs.MetaMeaning.{bounds_fit, class_names, classes_from, features_from, is_meant, meant_meta, meta_of, references_differ, targets_stand}
 use Rattle.hs_json.specs.Names.{differ}
 use Rattle.hs_json.proofs.Features.{Owned, differ-classes, order-features, owned-features, pairs-at, sound-features, whole-class}
 use Rattle.hs_json.proofs.Lists.{left_true, right_true}
-use Rattle.hs_json.proofs.Meant.{length-classes}
+use Rattle.hs_json.proofs.Meant.{length-classes, meta_few, meta_small}
 use Rattle.hs_json.proofs.Metas.{All-at, Differ-from_test, IsFlat, classes-plain, item_at, names-classes, weaker}
 use Rattle.hs_json.proofs.Parts.{meta_parts}
 
@@ -28,15 +29,14 @@ record Tests (classes : List WrittenClass) : Type 0 where
 tests : (classes : List WrittenClass) → is_meant classes ≡ true → Tests classes
 unfolding is_meant
 tests classes e =
-    let a = left_true _ (list_all few_references classes) e in
-    let b = left_true _ (list_all references_differ classes) a in
-    let c = left_true _ (list_all bounds_fit classes) b in
-    let d = left_true _ (list_all (targets_stand (class_names classes)) classes) c in
+    let a = left_true _ (list_all references_differ classes) e in
+    let b = left_true _ (list_all bounds_fit classes) a in
+    let c = left_true _ (list_all (targets_stand (class_names classes)) classes) b in
     record {
-      differ = right_true _ (differ (class_names classes)) d;
-      targets = right_true _ (list_all (targets_stand (class_names classes)) classes) c;
-      bounds = right_true _ (list_all bounds_fit classes) b;
-      references = right_true _ (list_all references_differ classes) a;
+      differ = right_true _ (differ (class_names classes)) c;
+      targets = right_true _ (list_all (targets_stand (class_names classes)) classes) b;
+      bounds = right_true _ (list_all bounds_fit classes) a;
+      references = right_true _ (list_all references_differ classes) e;
     }
 
 class-whole : (m : Meta) (c : ℕ) (o : Option Class) → o ≡ class_at m c → All (λ class. class.supers ≡ []) m.classes → IsSomeAnd o (λ class. class.features ≡ owned_by m c) →
@@ -100,3 +100,20 @@ meant-is_flat classes = record {
 
 pub meta-is_flat : (d : Data) (m : Meta) → meta_of d ≡ Some m → IsFlat m
 meta-is_flat d m e = let parts = meta_parts d m e in subst IsFlat parts.2 (meant-is_flat parts.0)
+
+classes-small : (first : ℕ) (classes : List WrittenClass) → All (λ class. length class.references ≤ 64) classes → All (λ class. length class.features ≤ 64) (classes_from first classes)
+classes-small first [] a = All-nil (λ class. length class.features ≤ 64)
+classes-small first (class ∷ classes) a =
+    All-cons (λ (class : Class). length class.features ≤ 64) _ (classes_from (first + length class.references) classes)
+    (let few = All-head (λ (class : WrittenClass). length class.references ≤ 64) class classes a in omega (arith, few, length-range_with_len first (length class.references)))
+    (classes-small (first + length class.references) classes (All-tail (λ (class : WrittenClass). length class.references ≤ 64) class classes a))
+
+meant-is_small : (classes : List WrittenClass) → is_meant classes ≡ true → IsSmallMeta (meant_meta classes)
+unfolding meant_meta
+meant-is_small classes e = record {
+  classes = let few = meta_few classes e in omega (arith, few, length-classes 0 classes);
+  features = classes-small 0 classes (meta_small classes e);
+}
+
+pub meta-is_small : (d : Data) (m : Meta) → meta_of d ≡ Some m → IsSmallMeta m
+meta-is_small d m e = let parts = meta_parts d m e in subst IsSmallMeta parts.2 (meant-is_small parts.0 parts.1)

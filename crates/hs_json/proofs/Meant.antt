@@ -17,7 +17,7 @@ meta_few classes e = leb-true (length classes) 256 (left_true (leb (length class
 
 pub meta_small : (classes : List WrittenClass) → is_meant classes ≡ true → All (λ class. length class.references ≤ 64) classes
 unfolding is_meant
-meta_small classes e = all_few classes (right_true _ (list_all few_references classes) e)
+meta_small classes e = all_few classes (right_true (leb (length classes) 256) (list_all few_references classes) (left_true _ _ (left_true _ _ (left_true _ _ (left_true _ _ (left_true _ _ e))))))
 
 pub length-classes : (first : ℕ) (classes : List WrittenClass) → length (classes_from first classes) ≡ length classes
 length-classes first [] = refl

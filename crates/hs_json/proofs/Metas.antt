@@ -1,22 +1,18 @@
 -- What is meant by written classes is a metamodel.
-use Rattle.std.proofs.Common.{◌≡◌, ◌≤◌, ◌<◌, ◌+◌, ◌-◌, ◌++◌, ◌⊎◌, inl, inr, ℕ, zero, suc, ℤ, pos, negsuc, List, [], ◌∷◌, Bool, true, false, not, nat_le, leb, ltb, eqb, cond, map, length, get_or, Option, Some, None, IsSomeAnd, IfSome, EachIndex, slice_get, refl, ap, sym, ◌∙◌, subst, arith, append_assoc, append-nil, length-append, add-zero}
-use Rattle.std.specs.List.{All, AllPairs, list_all, list_any, position_or_len, prefix_len, range_with_len, flat_map, slice_index_or}
-use Rattle.std.specs.Option.{option_map}
-use Rattle.std.proofs.lemmas.Bool.{both_ways, leb-true, ltb-true, eq-eqb, ne_eqb, false≢true}
-use Rattle.std.proofs.lemmas.Bool.Decides.{nat_tests}
-use Rattle.std.proofs.lemmas.List.Elements.{All-nil, All-cons, All-head, All-tail, All-append, All-weaker, All-map}
-use Rattle.std.proofs.lemmas.List.Sums.{AllPass-from_list_all}
-use Rattle.std.proofs.lemmas.Option.{none-some, same_Some, get_or_from_slice_get, slice_get_within}
+use Rattle.std.proofs.Common.{◌≡◌, ◌≤◌, ◌<◌, ◌+◌, ℕ, ℤ, pos, negsuc, List, [], ◌∷◌, true, false, not, map, length, get_or, Option, Some, None, IsSomeAnd, IfSome, slice_get, refl, ap, ◌∙◌, subst, arith}
+use Rattle.std.specs.List.{All, list_any, position_or_len}
+use Rattle.std.proofs.lemmas.Bool.{both_ways, ltb-true}
+use Rattle.std.proofs.lemmas.List.Elements.{All-nil, All-cons, All-head, All-tail}
+use Rattle.std.proofs.lemmas.Option.{same_Some, get_or_from_slice_get, slice_get_within}
 use Rattle.std.proofs.lemmas.Slice.Eq.{bytes_eq-Decides}
 use Rattle.serde_json.specs.Data.{Data}
 use Rattle.hs_types.specs.declared.meta.Class.{Class}
-use Rattle.hs_types.specs.declared.meta.Feature.{Feature}
 use Rattle.hs_types.specs.declared.meta.Meta.{Meta}
-use Rattle.hs_types.specs.Lists.{Differ, EachPair, each_once, has, places_from, same_text}
-use Rattle.hs_types.specs.Metamodel.{Conforms, FeatureFits, HasSuper, IsMeta, StandBefore, class_at, feature_at, features_of, is_attribute, owned_by}
+use Rattle.hs_types.specs.Lists.{Differ, same_text}
+use Rattle.hs_types.specs.Metamodel.{FeatureFits, is_attribute}
 use Rattle.hs_json.specs.declared.written.WrittenClass.{WrittenClass}
 use Rattle.hs_json.specs.declared.written.WrittenReference.{WrittenReference}
-use Rattle.hs_json.specs.MetaMeaning.{bound_fits, bounds_fit, class_names, classes_from, feature_of, features_from, few_references, is_meant, meant_meta, meta_of, names_fit, references_differ, targets_stand, upper_of}
+use Rattle.hs_json.specs.MetaMeaning.{bound_fits, class_names, classes_from, feature_of, meant_meta, meta_of, upper_of}
 use Rattle.hs_json.specs.Names.{differ}
 use Rattle.hs_json.proofs.Lists.{left_true, right_true, length-mapped}
 use Rattle.hs_json.proofs.Meant.{length-classes}

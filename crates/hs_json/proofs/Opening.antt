@@ -1,9 +1,9 @@
 -- A graph that is read is an opening graph over its metamodel.
-use Rattle.std.proofs.Common.{◌≡◌, ◌≤◌, ◌<◌, ◌+◌, ◌++◌, ◌||◌, ◌⊎◌, inl, inr, ℕ, zero, suc, List, [], ◌∷◌, Bool, true, false, not, ltb, eqb, cond, map, length, Option, Some, None, IsSomeAnd, is_some, slice_get, refl, ap, sym, ◌∙◌, subst, arith, append_assoc, length-append, add-zero, zero-add}
-use Rattle.std.specs.List.{All, Any, filter, find, flat_map, list_all, position, position_or_len, prefix_len, range_with_len}
+use Rattle.std.proofs.Common.{◌≡◌, ◌≤◌, ◌<◌, ◌+◌, ◌++◌, ◌||◌, ◌⊎◌, inl, inr, ℕ, zero, suc, List, [], ◌∷◌, Bool, true, false, eqb, map, length, Option, Some, None, IsSomeAnd, is_some, slice_get, refl, ap, sym, ◌∙◌, subst, arith, append_assoc, length-append, add-zero, zero-add}
+use Rattle.std.specs.List.{All, filter, find, flat_map, list_all, position_or_len, range_with_len}
 use Rattle.std.specs.Option.{option_map, option_and_then, unwrap_or}
 use Rattle.std.proofs.Math.Nat.{le_refl}
-use Rattle.std.proofs.lemmas.Bool.{both_ways, cases_Bool, eq-eqb, eqb-true, ne_eqb, false≢true, ltb-true}
+use Rattle.std.proofs.lemmas.Bool.{both_ways, eq-eqb, eqb-true, ne_eqb, false≢true}
 use Rattle.std.proofs.lemmas.List.Elements.{All-nil, All-cons, All-head, All-tail, All-append, All-weaker}
 use Rattle.std.proofs.lemmas.List.Quantifiers.{position-Some}
 use Rattle.std.proofs.lemmas.Option.{none-some, same_Some, slice_get-map}
@@ -15,18 +15,18 @@ use Rattle.hs_types.specs.declared.meta.Class.{Class}
 use Rattle.hs_types.specs.declared.meta.Feature.{Feature}
 use Rattle.hs_types.specs.declared.meta.Meta.{Meta}
 use Rattle.hs_types.specs.Lists.{Differ, EachPair, Rise, has, same_text}
-use Rattle.hs_types.specs.Metamodel.{Conforms, itself, IsConcrete, attributes_of, class_at, feature_at, features_of, is_attribute, target_of, type_of}
-use Rattle.hs_types.specs.TypedGraph.{AreSlotsOf, CanJoin, EdgeBefore, HasFeature, IsOf, IsOpening, IsTyped, Stands, hash_name, object_at}
+use Rattle.hs_types.specs.Metamodel.{Conforms, itself, IsConcrete, class_at, feature_at, features_of, is_attribute, target_of, type_of}
+use Rattle.hs_types.specs.TypedGraph.{AreSlotsOf, CanJoin, HasFeature, IsOf, IsOpening, Stands, hash_name, object_at}
 use Rattle.hs_json.specs.declared.written.Link.{Link}
 use Rattle.hs_json.specs.declared.written.WrittenObject.{WrittenObject}
 use Rattle.hs_json.specs.declared.written.WrittenTargets.{WrittenTargets}
 use Rattle.hs_json.specs.GraphMeaning.{all_links, class_named, class_of, class_stands, edges_from, graph_of, leads_to, link_of, links_from, links_of, meant_graph, object_names, objects_from, place_of, target_fits, targets_at, targets_fit}
 use Rattle.hs_json.specs.Names.{differ, is_object_name}
 use Rattle.hs_json.proofs.Lists.{left_true, right_true, length-mapped}
-use Rattle.hs_json.proofs.Metas.{All-at, Differ-from_test, IsFlat, item_at, weaker}
+use Rattle.hs_json.proofs.Metas.{All-at, Differ-from_test, IsFlat, weaker}
 use Rattle.hs_json.proofs.Graphs.{length-edges, length-objects}
 use Rattle.hs_json.proofs.Places.{or_true}
-use Rattle.hs_json.proofs.Parts.{Meant, graph_parts}
+use Rattle.hs_json.proofs.Parts.{graph_parts}
 
 -- ---- objects
 

@@ -7,3 +7,4 @@ pub mod GraphMeaning
 pub mod SessionForm
 pub mod BundleForm
 pub mod Answer
+pub mod Samples

@@ -40,9 +40,9 @@ references_differ class = differ (map (λ reference. reference.name) class.refer
 abbrev pub few_references : WrittenClass → Bool
 few_references class = nat_le (length class.references) 64
 
--- There are at most 256 classes. Names are identifiers; class names differ; each target is a class; bounds are such as there are; reference names of one class differ, and there are few of them.
+-- There are at most 256 classes, each with few references. Names are identifiers; class names differ; each target is a class; bounds are such as there are; and the reference names of one class differ.
 unfoldable pub is_meant : List WrittenClass → Bool
-is_meant classes = nat_le (length classes) 256 && list_all names_fit classes && differ (class_names classes) && list_all (targets_stand (class_names classes)) classes && list_all bounds_fit classes && list_all references_differ classes && list_all few_references classes
+is_meant classes = nat_le (length classes) 256 && list_all few_references classes && list_all names_fit classes && differ (class_names classes) && list_all (targets_stand (class_names classes)) classes && list_all bounds_fit classes && list_all references_differ classes
 
 abbrev pub upper_of : ℤ → Option ℕ
 upper_of (pos n) = Some n

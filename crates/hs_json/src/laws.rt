@@ -2,6 +2,7 @@
 
 ghost use Rattle.std.specs.Prelude.{◌≡◌, ◌≤◌, [], ℕ, List, false, length};
 ghost use Rattle.std.specs.List.{All};
+ghost use Rattle.hs_types.specs.Limits.{IsSmallMeta};
 ghost use Rattle.hs_types.specs.Metamodel.{IsMeta};
 ghost use Rattle.hs_types.specs.TypedGraph.{IsOpening};
 ghost use Rattle.hs_json.specs.BundleForm.{Contents, Spells};
@@ -17,6 +18,11 @@ pub fn metas_are_plain()
     ensures format { (bytes : List ℕ) (held : Contents) → Spells bytes held → held.meta.format ≡ 1 }
     ensures concrete { (bytes : List ℕ) (held : Contents) → Spells bytes held → All (λ class. class.is_abstract ≡ false) held.meta.classes }
     ensures no_supers { (bytes : List ℕ) (held : Contents) → Spells bytes held → All (λ class. class.supers ≡ []) held.meta.classes }
+{}
+
+/// A metamodel that is read keeps the limits: at most 256 classes, each with at most 64 features.
+pub fn metas_are_small()
+    ensures { (bytes : List ℕ) (held : Contents) → Spells bytes held → IsSmallMeta held.meta }
 {}
 
 /// A graph that is read keeps the limits, and no new name was given in it.

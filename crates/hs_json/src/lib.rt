@@ -9,6 +9,7 @@
 #![tactic(auto)]
 
 mod bundle;
+pub mod examples;
 mod fault;
 mod form;
 mod graph;

@@ -42,12 +42,12 @@ fn is_meant(classes: &[WrittenClass]) -> bool
     ensures { result ≡ spec.is_meant classes.now }
 {
     classes.len() <= MOST_CLASSES
+        && all_are_small(classes)
         && all_names_fit(classes)
         && names_differ(classes)
         && all_targets_stand(classes)
         && all_bounds_fit(classes)
         && all_references_differ(classes)
-        && all_are_small(classes)
 }
 
 fn all_names_fit(classes: &[WrittenClass]) -> bool

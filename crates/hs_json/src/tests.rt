@@ -309,6 +309,36 @@ fn keys_are_those_of_the_form(rt: HostRuntime) {
 }
 
 #[test]
+fn keys_of_inner_objects_are_those_of_the_form(rt: HostRuntime) {
+    let alloc = rt.alloc();
+    assert_eq!(rt;
+        is_meta_read(
+            alloc,
+            "{\"classes\":[{\"name\":\"A\",\"references\":[{\"name\":\"r\",\"target\":\"A\",\"lower\":0}]}]}"
+        ),
+        Some(false)
+    );
+    assert_eq!(rt;
+        is_meta_read(
+            alloc,
+            "{\"classes\":[{\"name\":\"A\",\"references\":[{\"name\":\"r\"}]}]}"
+        ),
+        Some(false)
+    );
+    assert_eq!(rt;
+        is_meta_read(
+            alloc,
+            "{\"classes\":[{\"name\":\"A\",\"references\":[{\"target\":\"A\"}]}]}"
+        ),
+        Some(false)
+    );
+    assert_eq!(rt; is_meta_read(alloc, "{}"), Some(false));
+    assert_eq!(rt; is_graph_read(alloc, "[{\"name\":\"x\"}]"), Some(false));
+    assert_eq!(rt; is_graph_read(alloc, "[{\"class\":\"A\"}]"), Some(false));
+    assert_eq!(rt; are_sessions_read(alloc, "[[{}]]"), Some(false));
+}
+
+#[test]
 fn sessions_are_one_call(rt: HostRuntime) {
     let alloc = rt.alloc();
     assert_eq!(rt;

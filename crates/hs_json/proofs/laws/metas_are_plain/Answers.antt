@@ -1,5 +1,3 @@
-use Rattle.std.proofs.Common.{◌≡◌, [], false, List, ℕ}
-use Rattle.hs_types.specs.declared.meta.Meta.{Meta}
 use Rattle.hs_json.proofs.Parts.{parts_of}
 use Rattle.hs_json.proofs.Metas.{meta-plain}
 use Rattle.hs_json.proofs.laws.metas_are_plain.Goals as goal
