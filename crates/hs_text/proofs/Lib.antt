@@ -1,4 +1,5 @@
 pub mod Stacks
+pub mod Spelt
 pub mod Numbering
 pub mod Tables
 pub mod Steps
@@ -7,5 +8,7 @@ pub mod Effects
 pub mod Reading
 pub mod Writing
 pub mod Produced
+pub mod Spellings
+pub mod WellParsed
 pub mod Whole
 pub mod Judged

@@ -5,3 +5,5 @@ pub mod Grammar
 pub mod Building
 pub mod Machine
 pub mod Parsing
+pub mod Trees
+pub mod WellFormed

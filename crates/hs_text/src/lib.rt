@@ -6,8 +6,8 @@
 //! stack. What a text is say the definitions in `specs/Grammar.antt`.
 #![tactic(auto)]
 
-ghost use Rattle.std.specs.Prelude.{◌≡◌, IfOk, IfErr};
-ghost use Rattle.std.specs.Str.{chars};
+ghost use Rattle.std.specs.Prelude.{◌≡◌, IfOk, IfErr, true};
+ghost use Rattle.std.specs.Str.{chars, all_scalars};
 ghost use Rattle.hs_text.specs.Parsing.{IsSyntaxOf, IsTextFault};
 
 use hs_tokens::tokenize;
@@ -50,12 +50,13 @@ fn characters(alloc: Global, text: &str) -> Result<Vec<char>, AllocError>
 }
 
 fn parse_chars(alloc: Global, source: &[char]) -> Result<Syntax, TextFault>
+    requires { all_scalars source.now ≡ true }
     ensures ok { IfOk result (IsSyntaxOf source.now) }
     ensures err { IfErr result (IsTextFault source.now) }
 {
     match tokenize(alloc, source) {
         Ok(scanned) => match parser::read(alloc, source, &scanned) {
-            Ok(syntax) => Ok(syntax),
+            Ok(definitions) => Ok(Syntax { definitions }),
             Err(fault) => Err(fault),
         },
         Err(fault) => Err(fault),
