@@ -1,4 +1,5 @@
 pub mod Stacks
+pub mod Escapes
 pub mod Spelt
 pub mod Numbering
 pub mod Tables
@@ -8,6 +9,8 @@ pub mod Effects
 pub mod Reading
 pub mod Writing
 pub mod Produced
+pub mod Grown
+pub mod Arranged
 pub mod Spellings
 pub mod WellParsed
 pub mod Whole

@@ -7,3 +7,5 @@ pub mod Machine
 pub mod Parsing
 pub mod Trees
 pub mod WellFormed
+pub mod Canonical
+pub mod Arranging

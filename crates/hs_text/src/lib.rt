@@ -11,22 +11,28 @@ ghost use Rattle.std.specs.Str.{chars, all_scalars};
 ghost use Rattle.hs_text.specs.Parsing.{IsSyntaxOf, IsTextFault};
 
 use hs_tokens::tokenize;
-use std::alloc::{AllocError, Global};
+use spelling::characters;
+use std::alloc::Global;
 
+mod arranging;
 mod builder;
 mod expand;
 mod grammar;
 mod laws;
 mod parser;
+mod printing;
+mod spelling;
 mod stack;
 mod syntax;
 mod table;
 #[cfg(test)]
 mod tests;
+mod unit_printing;
 mod words;
 
 pub use hs_tokens::{FaultKind, TextFault};
 pub use laws::{each_is_judged, judged_once, one_syntax};
+pub use printing::print;
 pub use syntax::{
     Atom, Bind, Body, Call, Count, Definition, Direction, Element, Item, Mark, Param, Rule, Simple,
     Syntax, Unit,
@@ -40,13 +46,6 @@ pub fn parse(alloc: Global, text: &str) -> Result<Syntax, TextFault>
 {
     let source = characters(alloc, text)?;
     parse_chars(alloc, source.as_slice())
-}
-
-#[tactic(auto, using(std::proofs::lemmas::Str::chars_from_encodes))]
-fn characters(alloc: Global, text: &str) -> Result<Vec<char>, AllocError>
-    ensures { IfOk result (λ v. v.items ≡ chars text.now) }
-{
-    text.chars().collect(alloc)
 }
 
 fn parse_chars(alloc: Global, source: &[char]) -> Result<Syntax, TextFault>
