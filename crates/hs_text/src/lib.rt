@@ -20,6 +20,8 @@ mod expand;
 mod grammar;
 mod laws;
 mod parser;
+#[cfg(test)]
+mod print_tests;
 mod printing;
 mod spelling;
 mod stack;
