@@ -12,6 +12,15 @@ pub mod Produced
 pub mod Grown
 pub mod Arranged
 pub mod Spellings
+pub mod Marks
+pub mod Written
+pub mod Says
+pub mod SaysExpr
+pub mod SaysLists
+pub mod SaysParts
+pub mod SaysUnits
 pub mod WellParsed
 pub mod Whole
 pub mod Judged
+pub mod Placeless
+pub mod ReadBack

@@ -9,3 +9,4 @@ pub mod Trees
 pub mod WellFormed
 pub mod Canonical
 pub mod Arranging
+pub mod Unplaced

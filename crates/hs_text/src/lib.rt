@@ -33,7 +33,7 @@ mod unit_printing;
 mod words;
 
 pub use hs_tokens::{FaultKind, TextFault};
-pub use laws::{each_is_judged, judged_once, one_syntax};
+pub use laws::{each_is_judged, judged_once, one_syntax, printed_is_read_back};
 pub use printing::print;
 pub use syntax::{
     Atom, Bind, Body, Call, Count, Definition, Direction, Element, Item, Mark, Param, Rule, Simple,
