@@ -1,4 +1,6 @@
 pub mod Stacks
+pub mod Escapes
+pub mod Spelt
 pub mod Numbering
 pub mod Tables
 pub mod Steps
@@ -7,5 +9,18 @@ pub mod Effects
 pub mod Reading
 pub mod Writing
 pub mod Produced
+pub mod Grown
+pub mod Arranged
+pub mod Spellings
+pub mod Marks
+pub mod Written
+pub mod Says
+pub mod SaysExpr
+pub mod SaysLists
+pub mod SaysParts
+pub mod SaysUnits
+pub mod WellParsed
 pub mod Whole
 pub mod Judged
+pub mod Placeless
+pub mod ReadBack

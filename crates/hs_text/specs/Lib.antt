@@ -5,3 +5,8 @@ pub mod Grammar
 pub mod Building
 pub mod Machine
 pub mod Parsing
+pub mod Trees
+pub mod WellFormed
+pub mod Canonical
+pub mod Arranging
+pub mod Unplaced

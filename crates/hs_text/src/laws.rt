@@ -4,7 +4,11 @@ ghost use Rattle.std.specs.Prelude.{◌≡◌, ◌⊎◌, ℕ, List};
 ghost use Rattle.hs_tokens.specs.declared.token.Token.{Token};
 ghost use Rattle.hs_text.specs.declared.syntax.Definition.{Definition};
 ghost use Rattle.hs_text.specs.Grammar.{IsText};
-ghost use Rattle.hs_text.specs.Parsing.{IsFirstWrong, IsUnfinished};
+ghost use Rattle.std.specs.Str.{chars};
+ghost use Rattle.hs_text.specs.declared.syntax.Syntax.{Syntax};
+ghost use Rattle.hs_text.specs.Parsing.{IsSyntaxOf, IsFirstWrong, IsUnfinished};
+ghost use Rattle.hs_text.specs.Canonical.{canonical_text};
+ghost use Rattle.hs_text.specs.Unplaced.{unplaced};
 
 /// Tokens are the text of one syntax at most.
 pub fn one_syntax()
@@ -21,4 +25,12 @@ pub fn judged_once()
     ensures text_ends { (source : List ℕ) (ts : List Token) (ds : List Definition) → IsText source ts ds → IsUnfinished source ts → ⊥ }
     ensures text_is_right { (source : List ℕ) (ts : List Token) (ds : List Definition) (t : Token) → IsText source ts ds → IsFirstWrong source ts t → ⊥ }
     ensures unfinished_is_right { (source : List ℕ) (ts : List Token) (t : Token) → IsUnfinished source ts → IsFirstWrong source ts t → ⊥ }
+{}
+
+/// What is printed is read back as the same syntax, but for spans; so printing what was read gives the
+/// printed text again.
+pub fn printed_is_read_back()
+    ensures reads { (s : Syntax) → (t : Syntax) × IsSyntaxOf (chars (canonical_text s.definitions)) t }
+    ensures same { (s t : Syntax) → IsSyntaxOf (chars (canonical_text s.definitions)) t → unplaced t.definitions ≡ unplaced s.definitions }
+    ensures again { (s t : Syntax) → IsSyntaxOf (chars (canonical_text s.definitions)) t → canonical_text t.definitions ≡ canonical_text s.definitions }
 {}

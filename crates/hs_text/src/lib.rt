@@ -6,27 +6,35 @@
 //! stack. What a text is say the definitions in `specs/Grammar.antt`.
 #![tactic(auto)]
 
-ghost use Rattle.std.specs.Prelude.{◌≡◌, IfOk, IfErr};
-ghost use Rattle.std.specs.Str.{chars};
+ghost use Rattle.std.specs.Prelude.{◌≡◌, IfOk, IfErr, true};
+ghost use Rattle.std.specs.Str.{chars, all_scalars};
 ghost use Rattle.hs_text.specs.Parsing.{IsSyntaxOf, IsTextFault};
 
 use hs_tokens::tokenize;
-use std::alloc::{AllocError, Global};
+use spelling::characters;
+use std::alloc::Global;
 
+mod arranging;
 mod builder;
 mod expand;
 mod grammar;
 mod laws;
 mod parser;
+#[cfg(test)]
+mod print_tests;
+mod printing;
+mod spelling;
 mod stack;
 mod syntax;
 mod table;
 #[cfg(test)]
 mod tests;
+mod unit_printing;
 mod words;
 
 pub use hs_tokens::{FaultKind, TextFault};
-pub use laws::{each_is_judged, judged_once, one_syntax};
+pub use laws::{each_is_judged, judged_once, one_syntax, printed_is_read_back};
+pub use printing::print;
 pub use syntax::{
     Atom, Bind, Body, Call, Count, Definition, Direction, Element, Item, Mark, Param, Rule, Simple,
     Syntax, Unit,
@@ -42,20 +50,14 @@ pub fn parse(alloc: Global, text: &str) -> Result<Syntax, TextFault>
     parse_chars(alloc, source.as_slice())
 }
 
-#[tactic(auto, using(std::proofs::lemmas::Str::chars_from_encodes))]
-fn characters(alloc: Global, text: &str) -> Result<Vec<char>, AllocError>
-    ensures { IfOk result (λ v. v.items ≡ chars text.now) }
-{
-    text.chars().collect(alloc)
-}
-
 fn parse_chars(alloc: Global, source: &[char]) -> Result<Syntax, TextFault>
+    requires { all_scalars source.now ≡ true }
     ensures ok { IfOk result (IsSyntaxOf source.now) }
     ensures err { IfErr result (IsTextFault source.now) }
 {
     match tokenize(alloc, source) {
         Ok(scanned) => match parser::read(alloc, source, &scanned) {
-            Ok(syntax) => Ok(syntax),
+            Ok(definitions) => Ok(Syntax { definitions }),
             Err(fault) => Err(fault),
         },
         Err(fault) => Err(fault),

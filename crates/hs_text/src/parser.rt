@@ -13,7 +13,7 @@ use crate::builder::Builder;
 use crate::expand::expand;
 use crate::grammar::{Part, Symbol, Term};
 use crate::stack::Stack;
-use crate::syntax::Syntax;
+use crate::syntax::Definition;
 use crate::table::{empty, production};
 use hs_expr::List;
 use hs_tokens::{FaultKind, Kind, Scanned, TextFault, Token};
@@ -216,9 +216,13 @@ fn finish(
     Ok(true)
 }
 
-/// The syntax of the tokens of a text, or the first fault of the grammar.
-pub fn read(alloc: Global, source: &[char], scanned: &Scanned) -> Result<Syntax, TextFault>
-    ensures ok { IfOk result (λ s. IsText source.now scanned.now.tokens.items s.definitions) }
+/// The definitions of the tokens of a text, or the first fault of the grammar.
+pub fn read(
+    alloc: Global,
+    source: &[char],
+    scanned: &Scanned,
+) -> Result<List<Definition>, TextFault>
+    ensures ok { IfOk result (IsText source.now scanned.now.tokens.items) }
     ensures err { IfErr result (IsGrammarFault source.now scanned.now.tokens.items scanned.now.end) }
 {
     let mut builder = Builder::new(alloc);
@@ -232,9 +236,7 @@ pub fn read(alloc: Global, source: &[char], scanned: &Scanned) -> Result<Syntax,
     if !finish(alloc, source, &mut stack, &mut builder)? {
         return Err(scanned.end.fault(FaultKind::End));
     }
-    Ok(Syntax {
-        definitions: mem::replace(&mut builder.definitions, List::new(alloc)),
-    })
+    Ok(mem::replace(&mut builder.definitions, List::new(alloc)))
 }
 
 // The fault at a token with which no text goes on.

@@ -1,3 +1,5 @@
+ghost use Rattle.hs_text.specs.WellFormed.{AreWellFormed, AreWellFormed-prop};
+
 use hs_expr::{List, Name, NameExpr, Span, Text};
 
 /// Whether a parameter is given or given back.
@@ -140,8 +142,10 @@ pub enum Definition {
     Unit(Unit),
 }
 
-/// A text's rules and units, in written order.
+/// A text's rules and units, in written order. Its parts are such as the grammar can have at their
+/// places, and its spans are slices of a text, in order.
 #[derive(Debug, Drop)]
 pub struct Syntax {
     pub definitions: List<Definition>,
+    pub ghost well_formed: { AreWellFormed definitions } by { AreWellFormed-prop definitions },
 }

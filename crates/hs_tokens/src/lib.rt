@@ -7,6 +7,8 @@
 mod fault;
 mod laws;
 mod scan;
+#[cfg(test)]
+mod tests;
 mod token;
 
 pub use fault::{FaultKind, TextFault};

@@ -1,0 +1,160 @@
+//! The text of an expression, in one pass over its pieces from the last to the first: so neither the
+//! machine's stack nor the time grows with its depth.
+
+ghost use Rattle.std.specs.Prelude.{◌≡◌, ◌++◌, IfOk, OnOk, true, string_bytes, is_some};
+ghost use Rattle.std.specs.List.{concat};
+ghost use Rattle.hs_text.specs.Trees.{tree_of};
+ghost use Rattle.hs_text.specs.Canonical.{piece_text, grown_text, expr_text};
+ghost use Rattle.hs_text.specs.Arranging.{next_expr, below_expr, before_expr, opened, closed, tasks_after, texts_after};
+
+use crate::spelling::{quoted, sign_word, truth_word};
+use crate::stack::Stack;
+use hs_expr::{Name, NameExpr, Piece, Text};
+use std::alloc::{AllocError, Global};
+
+/// What is still to be written, before what is written already.
+#[derive(Debug, Drop)]
+pub enum Task {
+    /// This text.
+    Text(Text),
+    /// An expression: in parentheses, if it has to be and an operator makes it.
+    Expr(bool),
+}
+
+fn slot(alloc: Global, node: &Name, attribute: &Name) -> Result<Text, AllocError>
+    ensures { IfOk result (λ text. text ≡ piece_text (Piece.Slot node.now attribute.now)) }
+{
+    let mut text = String::from_str(alloc, node.text.as_str())?;
+    text.push_str(".")?;
+    text.push_str(attribute.text.as_str())?;
+    Ok(Text::from_string(text))
+}
+
+// The text of a piece by itself.
+fn spelled(alloc: Global, piece: &Piece) -> Result<Text, AllocError>
+    ensures { IfOk result (λ text. text ≡ piece_text piece.now) }
+{
+    match piece {
+        Piece::Int { value, .. } => Ok(Text::from_string(format!(in alloc; "{value}")?)),
+        Piece::Text { value, .. } => quoted(alloc, value),
+        Piece::Bool { value, .. } => Text::from_str(alloc, truth_word(*value)),
+        Piece::Name(name) => name.text.clone(),
+        Piece::Slot { node, attribute } => slot(alloc, node, attribute),
+        Piece::Not { .. } => Text::from_str(alloc, "not "),
+        Piece::Minus { .. } => Text::from_str(alloc, "-"),
+        Piece::Binary { sign, .. } => {
+            let word = sign_word(*sign);
+            Ok(Text::from_string(format!(in alloc; " {word} ")?))
+        }
+    }
+}
+
+// Takes the next expression that is to be written, and whether it needs parentheses; the texts behind it
+// are written then.
+fn next(tasks: &mut Stack<Task>, texts: &mut Stack<Text>) -> Result<Option<bool>, AllocError>
+    ensures next { IfOk result (λ r. r ≡ next_expr tasks.old) }
+    ensures below { OnOk result (tasks.new ≡ below_expr tasks.old) }
+    ensures written { OnOk result (texts.new ≡ before_expr tasks.old texts.old) }
+{
+    'tasks: while let Some(task) = tasks.pop() {
+        match task {
+            Task::Text(text) => texts.push(text)?,
+            Task::Expr(parens) => return Ok(Some(parens)),
+        }
+    }
+    Ok(None)
+}
+
+fn open(alloc: Global, parens: bool, tasks: &mut Stack<Task>) -> Result<(), AllocError>
+    ensures { OnOk result (tasks.new ≡ opened parens tasks.old) }
+{
+    if parens {
+        tasks.push(Task::Text(Text::from_str(alloc, "(")?))?;
+    }
+    Ok(())
+}
+
+fn close(alloc: Global, parens: bool, texts: &mut Stack<Text>) -> Result<(), AllocError>
+    ensures { OnOk result (texts.new ≡ closed parens texts.old) }
+{
+    if parens {
+        texts.push(Text::from_str(alloc, ")")?)?;
+    }
+    Ok(())
+}
+
+// The operands of an operator are to be written, and the operator before the last one.
+fn put_tasks(
+    alloc: Global,
+    piece: &Piece,
+    parens: bool,
+    tasks: &mut Stack<Task>,
+) -> Result<(), AllocError>
+    ensures { OnOk result (tasks.new ≡ tasks_after piece.now parens tasks.old) }
+{
+    match piece {
+        Piece::Not { .. } | Piece::Minus { .. } => {
+            open(alloc, parens, tasks)?;
+        }
+        Piece::Binary { .. } => {
+            open(alloc, parens, tasks)?;
+            tasks.push(Task::Expr(true))?;
+        }
+        _ => return Ok(()),
+    }
+    tasks.push(Task::Text(spelled(alloc, piece)?))?;
+    tasks.push(Task::Expr(true))
+}
+
+fn put_text(
+    alloc: Global,
+    piece: &Piece,
+    parens: bool,
+    texts: &mut Stack<Text>,
+) -> Result<(), AllocError>
+    ensures { OnOk result (texts.new ≡ texts_after piece.now parens texts.old) }
+{
+    match piece {
+        Piece::Not { .. } | Piece::Minus { .. } | Piece::Binary { .. } => {
+            close(alloc, parens, texts)
+        }
+        _ => texts.push(spelled(alloc, piece)?),
+    }
+}
+
+// The texts that an expression is written with, the first one on top.
+fn arranged(alloc: Global, pieces: &[Piece]) -> Result<Stack<Text>, AllocError>
+    requires { is_some (tree_of pieces.now) ≡ true }
+    ensures { IfOk result (λ texts. concat texts ≡ grown_text (tree_of pieces.now)) }
+{
+    let mut tasks = Stack::new(alloc);
+    let mut texts = Stack::new(alloc);
+    tasks.push(Task::Expr(false))?;
+    for i in 0..pieces.len() {
+        let piece = &pieces[pieces.len() - 1 - i];
+        let parens = next(&mut tasks, &mut texts)?.unwrap_or(false);
+        put_tasks(alloc, piece, parens, &mut tasks)?;
+        put_text(alloc, piece, parens, &mut texts)?;
+    }
+    next(&mut tasks, &mut texts)?;
+    Ok(texts)
+}
+
+// Writes the texts, the top first.
+fn write_texts(out: &mut String, texts: &mut Stack<Text>) -> Result<(), AllocError>
+    ensures { OnOk result (string_bytes out.new ≡ string_bytes out.old ++ concat texts.old) }
+{
+    'texts: while let Some(text) = texts.pop() {
+        out.push_str(text.as_str())?;
+    }
+    Ok(())
+}
+
+/// Writes an expression.
+pub fn write_expr(alloc: Global, out: &mut String, expr: &NameExpr) -> Result<(), AllocError>
+    requires { is_some (tree_of expr.now.pieces) ≡ true }
+    ensures { OnOk result (string_bytes out.new ≡ string_bytes out.old ++ expr_text expr.now) }
+{
+    let mut texts = arranged(alloc, expr.pieces.as_slice())?;
+    write_texts(out, &mut texts)
+}
