@@ -194,8 +194,8 @@ blank-longest cs rest l n = longest-by cs (32 ∷ rest) l (λ d m others w k.
     let same : d ≡ 32 = first d (m ++ others) w in
     let found : is_lexeme (cs ++ (32 ∷ m)) ≡ true = subst (λ (x : ℕ). is_lexeme (cs ++ (x ∷ m)) ≡ true) same k in
     cc (n m)) where
-  first : (d : ℕ) (more : List ℕ) → 32 ∷ rest ≡ d ∷ more → d ≡ 32
-  first d more w = cc
+      first : (d : ℕ) (more : List ℕ) → 32 ∷ rest ≡ d ∷ more → d ≡ 32
+      first d more w = cc
 
 -- no arrow begins with it
 abbrev pub no_arrow : List ℕ → Bool
@@ -216,8 +216,8 @@ low-same [] h = refl
 low-same (c ∷ cs) h =
     let low : c < 128 = below c (both-left (is_low c) (list_all is_low cs) h) in
     ap (λ x. x ++ encode_utf8_all cs) (encode_ascii c low) ∙ ap (λ x. c ∷ x) (low-same cs (both-right (is_low c) (list_all is_low cs) h)) where
-  below : (c : ℕ) → is_low c ≡ true → c < 128
-  below c h = grind (arith, nat_tests)
+      below : (c : ℕ) → is_low c ≡ true → c < 128
+      below c h = grind (arith, nat_tests)
 
 pub low-scalars : (cs : List ℕ) → list_all is_low cs ≡ true → all_scalars cs ≡ true
 low-scalars [] h = refl

@@ -110,8 +110,8 @@ module _ (source : List ℕ) where
 
   pub text-token : (v : List ℕ) (t : Token) → IsAllowed v → IsSpelled source (quoted_chars v) t → (t.kind ≡ kind.Text) × (text_of source t ≡ v)
   text-token v t h s = (
-      s.kind ∙ text-kind (flat_map escape (chars v) ++ 34 ∷ []) (quoted-closes (chars v) h.1),
-      ap (λ x. encode_utf8_all (content false (drop 1 x))) s.slice ∙ ap encode_utf8_all (quoted-means (chars v) h.1) ∙ encodes-chars v (IsUtf8-from_is_utf8 v h.0),
+    s.kind ∙ text-kind (flat_map escape (chars v) ++ 34 ∷ []) (quoted-closes (chars v) h.1),
+    ap (λ x. encode_utf8_all (content false (drop 1 x))) s.slice ∙ ap encode_utf8_all (quoted-means (chars v) h.1) ∙ encodes-chars v (IsUtf8-from_is_utf8 v h.0),
   )
 
   pub truth-token : (b : Bool) (t : Token) → IsSpelled source (truth_text b) t → ((k : Kind) × (t.kind ≡ k) × (is_true k ≡ b) × (matches term.Literal k ≡ true) × (matches term.Atom k ≡ true) × (literal_by k source t ≡ piece.Bool (is_true k) t.span))

@@ -335,9 +335,10 @@ tree-fine : (a : Tree) → IsProper a → AllByRecursion IsPieceFine (postfix a)
 tree-fine (Leaf p) h k = (h, k.0)
 tree-fine (Not span a) h k = tree-fine a h (every-left IsPieceFine (postfix a) (piece.Not span ∷ []) k)
 tree-fine (Minus span a) h k = tree-fine a h (every-left IsPieceFine (postfix a) (piece.Minus span ∷ []) k)
-tree-fine (Binary g span a b) h k =
-    (tree-fine a h.0 (every-left IsPieceFine (postfix a) (postfix b ++ piece.Binary g span ∷ []) k),
-    tree-fine b h.1 (every-left IsPieceFine (postfix b) (piece.Binary g span ∷ []) (every-right IsPieceFine (postfix a) (postfix b ++ piece.Binary g span ∷ []) k)))
+tree-fine (Binary g span a b) h k = (
+  tree-fine a h.0 (every-left IsPieceFine (postfix a) (postfix b ++ piece.Binary g span ∷ []) k),
+  tree-fine b h.1 (every-left IsPieceFine (postfix b) (piece.Binary g span ∷ []) (every-right IsPieceFine (postfix a) (postfix b ++ piece.Binary g span ∷ []) k)),
+)
 
 abbrev pub grown_marks : Option Tree → List Mark → List Mark
 grown_marks None rest = rest

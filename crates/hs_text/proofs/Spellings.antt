@@ -188,18 +188,18 @@ text-allowed (c ∷ cs) s h = utf8-allowed (content false cs) (content-scalars f
 -- TOKENS THAT ARE SPELT
 
 module _ (source : List ℕ) (scalars : all_scalars source ≡ true) where
-  named : (bytes : List ℕ) (t : Token) → is_word (slice source t.span) ≡ true → encode_utf8_all (slice source t.span) ≡ slice source t.span
-  named bytes t w = encodes-IsAscii (slice source t.span) (word-ascii (slice source t.span) w)
+  named : (t : Token) → is_word (slice source t.span) ≡ true → encode_utf8_all (slice source t.span) ≡ slice source t.span
+  named t w = encodes-IsAscii (slice source t.span) (word-ascii (slice source t.span) w)
 
   pub word-fine : (t : Token) → IsSpelt source t → Is term.Word t → IsWord (name_of source t)
   word-fine t s i =
       let w = word-from (slice source t.span) s.lexeme (subst (λ k. matches term.Word k ≡ true) s.kind i) in
-      subst (λ x. is_word x ≡ true) (sym (named [] t w)) w
+      subst (λ x. is_word x ≡ true) (sym (named t w)) w
 
   pub name-fine : (t : Token) → IsSpelt source t → Is (term.Just kind.Name) t → IsName (name_of source t)
   name-fine t s i =
       let w = name-from (slice source t.span) s.lexeme (subst (λ k. same kind.Name k ≡ true) s.kind i) in
-      subst (λ x. (is_word x ≡ true) × (is_some (kind_in reserved x) ≡ false)) (sym (named [] t w.0)) w
+      subst (λ x. (is_word x ≡ true) × (is_some (kind_in reserved x) ≡ false)) (sym (named t w.0)) w
 
   number-fine : (t : Token) → IsSpelt source t → is_literal t.number ≡ true
   number-fine t s = let h : value_of (slice source t.span) < 2 ^ 63 = s.small in ap is_literal s.number ∙ grind (arith, nat_tests)

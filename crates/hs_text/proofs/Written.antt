@@ -9,7 +9,7 @@ use Rattle.std.proofs.lemmas.Str.{encodes-append, encode_ascii, encodes-IsAscii,
 use Rattle.std.proofs.lemmas.Bool.Decides.{nat_tests}
 use Rattle.hs_expr.specs.declared.Piece.{Piece}
 use Rattle.hs_expr.specs.declared.Piece.TheVariants as piece
-use Rattle.hs_tokens.specs.Tokens.{is_letter, is_digit, is_word_part, is_word, is_integer, is_text, is_lexeme, is_escaped, is_nil, closes, decimal_from, value_of} 
+use Rattle.hs_tokens.specs.Tokens.{is_letter, is_digit, is_word_part, is_word, is_integer, is_text, is_lexeme, is_escaped, is_nil, closes, decimal_from, value_of}
 use Rattle.hs_tokens.specs.Tokens as tokens
 use Rattle.hs_text.specs.Words.{content}
 use Rattle.hs_text.specs.Trees.{Tree, Leaf, Not, Minus, Binary}
@@ -81,20 +81,21 @@ escapes c h = step (c == 34) (c == 92) (c == 10) (c == 9) refl refl refl refl wh
   step false false false true p q r s = subst Escapes (sym (equal-from c 9 s)) ((λ rest. refl), (λ rest. refl), special 9 refl (lit< tt))
   step false false false false p q r s =
       let high : nat_le 32 c ≡ true = allowed-last (c == 10) (c == 9) (nat_le 32 c) h r s in
-      let same : escape c ≡ c ∷ [] = plain c p q r s in
-      ((λ rest. ap (λ x. closes false (x ++ rest)) same ∙ closing (c == 34) (c == 92) (nat_le 32 c) rest p q high),
-      (λ rest. ap (λ x. content false (x ++ rest)) same ∙ meaning (c == 34) (c == 92) rest p q),
-      ap encode_utf8_all same ∙ append-nil (encode_utf8 c) ∙ sym (as-it-is c (differs-from c 34 p) (differs-from c 92 q) (differs-from c 10 r) (differs-from c 9 s))) where
-    closing : (a b d : Bool) (rest : List ℕ) → a ≡ false → b ≡ false → d ≡ true → cond a (is_nil rest) (cond b (closes true rest) (d && closes false rest)) ≡ closes false rest
-    closing true b d rest p q r = cc
-    closing false true d rest p q r = cc
-    closing false false true rest p q r = refl
-    closing false false false rest p q r = cc
+      let same : escape c ≡ c ∷ [] = plain c p q r s in (
+        (λ rest. ap (λ x. closes false (x ++ rest)) same ∙ closing (c == 34) (c == 92) (nat_le 32 c) rest p q high),
+        (λ rest. ap (λ x. content false (x ++ rest)) same ∙ meaning (c == 34) (c == 92) rest p q),
+        ap encode_utf8_all same ∙ append-nil (encode_utf8 c) ∙ sym (as-it-is c (differs-from c 34 p) (differs-from c 92 q) (differs-from c 10 r) (differs-from c 9 s)),
+      ) where
+        closing : (a b d : Bool) (rest : List ℕ) → a ≡ false → b ≡ false → d ≡ true → cond a (is_nil rest) (cond b (closes true rest) (d && closes false rest)) ≡ closes false rest
+        closing true b d rest p q r = cc
+        closing false true d rest p q r = cc
+        closing false false true rest p q r = refl
+        closing false false false rest p q r = cc
 
-    meaning : (a b : Bool) (rest : List ℕ) → a ≡ false → b ≡ false → cond a [] (cond b (content true rest) (c ∷ content false rest)) ≡ c ∷ content false rest
-    meaning true b rest p q = cc
-    meaning false true rest p q = cc
-    meaning false false rest p q = refl
+        meaning : (a b : Bool) (rest : List ℕ) → a ≡ false → b ≡ false → cond a [] (cond b (content true rest) (c ∷ content false rest)) ≡ c ∷ content false rest
+        meaning true b rest p q = cc
+        meaning false true rest p q = cc
+        meaning false false rest p q = refl
 
 pub quoted-closes : (cs : List ℕ) → list_all is_allowed cs ≡ true → closes false (flat_map escape cs ++ 34 ∷ []) ≡ true
 quoted-closes [] h = refl
@@ -154,8 +155,8 @@ number-mark n ms h t s =
     let small : n < 2 ^ 63 = below n h in
     let is = number-is n (omega arith) in
     (integer-longest (decimal n) (spelled ms) is.0 t, subst (λ (x : ℕ). x < 2 ^ 63) (sym (value-is (decimal n) n is)) small, encodes-IsAscii (decimal n) (IsAscii-decimal n (omega arith)), ascii-scalars (decimal n) (IsAscii-decimal n (omega arith)), s) where
-  below : (n : ℕ) → nat_lt n (2 ^ 63) ≡ true → n < 2 ^ 63
-  below n h = grind (arith, nat_tests)
+      below : (n : ℕ) → nat_lt n (2 ^ 63) ≡ true → n < 2 ^ 63
+      below n h = grind (arith, nat_tests)
 
 -- EXPRESSIONS
 

@@ -30,7 +30,7 @@ use Rattle.hs_text.specs.declared.syntax.Definition.{Definition}
 use Rattle.hs_text.specs.declared.syntax.Definition.TheVariants as definition
 use Rattle.hs_text.specs.Trees.{Tree, Leaf, Not, Minus, Binary, tree_of}
 
--- The canonical text of a syntax, in UTF-8.
+-- The canonical text of a syntax, in UTF-8. Texts that stand side by side here are written one after another.
 
 -- A character of a text as it is written: a double quote, a backslash, a line feed and a tab by an
 -- escape, and any other as it is.
@@ -42,6 +42,7 @@ escape c =
     else if c == 9 then codes "\\t"
     else c ∷ []
 
+-- A text in double quotes.
 abbrev pub quoted_text : List ℕ → List ℕ
 quoted_text value = codes "\"" ++ flat_map escape value ++ codes "\""
 
@@ -49,6 +50,7 @@ abbrev pub truth_text : Bool → List ℕ
 truth_text true = codes "true"
 truth_text false = codes "false"
 
+-- A sign or a word between two operands.
 abbrev pub sign_text : Sign → List ℕ
 sign_text sign.Or = codes "or"
 sign_text sign.And = codes "and"
@@ -81,6 +83,7 @@ operand (Not span a) text = codes "(" ++ text ++ codes ")"
 operand (Minus span a) text = codes "(" ++ text ++ codes ")"
 operand (Binary sign span a b) text = codes "(" ++ text ++ codes ")"
 
+-- The text of an expression: an operator with its operands.
 abbrev pub tree_text : Tree → List ℕ
 tree_text (Leaf p) = piece_text p
 tree_text (Not span a) = piece_text (piece.Not span) ++ operand a (tree_text a)
@@ -103,6 +106,7 @@ abbrev pub direction_text : Direction → List ℕ
 direction_text direction.In = codes "in"
 direction_text direction.Out = codes "out"
 
+-- A parameter: its direction, its name and its kind.
 abbrev pub param_text : Param → List ℕ
 param_text param = direction_text param.direction ++ codes " " ++ param.name.text ++ codes ": " ++ param.kind.text
 
@@ -114,10 +118,12 @@ mark_text mark.Preserve = codes "preserve"
 mark_text mark.Create = codes "create"
 mark_text mark.Delete = codes "delete"
 
+-- A node with its class, or an edge with its ends and its reference.
 abbrev pub element_text : Element → List ℕ
 element_text (element.Node name class) = codes "node " ++ name.text ++ codes ": " ++ class.text
 element_text (element.Edge source target reference) = codes "edge " ++ source.text ++ codes " -> " ++ target.text ++ codes ": " ++ reference.text
 
+-- A simple item, without its semicolon.
 abbrev pub simple_text : Simple → List ℕ
 simple_text (simple.Marked mark element) = mark_text mark ++ codes " " ++ element_text element
 simple_text (simple.Set node attribute value) = codes "set " ++ node.text ++ codes "." ++ attribute.text ++ codes " = " ++ expr_text value
@@ -144,6 +150,7 @@ element_line element = line two_levels (element_text element)
 abbrev pub simple_line : Simple → List ℕ
 simple_line simple = line two_levels (simple_text simple)
 
+-- An item of a rule: a line, or a block.
 abbrev pub item_text : Item → List ℕ
 item_text (item.Simple simple) = line one_level (simple_text simple)
 item_text (item.Forbid elements) = block one_level (codes "forbid") (flat_map element_line elements)
@@ -154,16 +161,19 @@ abbrev pub minus_text : Bool → List ℕ
 minus_text true = codes "-"
 minus_text false = []
 
+-- A value in a call.
 abbrev pub atom_text : Atom → List ℕ
 atom_text (atom.Int minus value span) = minus_text minus ++ signed_decimal value
 atom_text (atom.Text value span) = quoted_text value
 atom_text (atom.Bool value span) = truth_text value
 atom_text (atom.Name name) = name.text
 
+-- What is given to a parameter, or where what it gives back goes.
 abbrev pub bind_text : Bind → List ℕ
 bind_text (bind.Give parameter value) = parameter.text ++ codes " = " ++ atom_text value
 bind_text (bind.Take parameter variable) = parameter.text ++ codes " > " ++ variable.text
 
+-- A call, with its binds in parentheses.
 abbrev pub call_text : Call → List ℕ
 call_text call = call.callee.text ++ codes "(" ++ commas (map bind_text call.binds) ++ codes ")"
 
@@ -188,6 +198,7 @@ abbrev pub else_line : Option Call → List ℕ
 else_line None = []
 else_line (Some call) = call_line (codes "else ") call
 
+-- The lines of a unit.
 abbrev pub body_lines : Body → List ℕ
 body_lines (body.Sequential calls) = flat_map (call_line []) calls
 body_lines (body.Independent calls) = flat_map (call_line []) calls
@@ -196,6 +207,7 @@ body_lines (body.Conditional test chosen otherwise) = call_line (codes "if ") te
 body_lines (body.Loop call) = call_line [] call
 body_lines (body.Iterated count call) = call_line [] call
 
+-- A rule or a unit.
 abbrev pub definition_text : Definition → List ℕ
 definition_text (definition.Rule rule) = block [] (codes "rule " ++ rule.name.text ++ params_text rule.params) (flat_map item_text rule.items)
 definition_text (definition.Unit unit) = block [] (codes "unit " ++ unit.name.text ++ params_text unit.params ++ codes " " ++ body_kind unit.body) (body_lines unit.body)

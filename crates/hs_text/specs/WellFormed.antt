@@ -53,6 +53,7 @@ is_allowed c = c == 10 || c == 9 || nat_le 32 c
 abbrev pub IsAllowed : List ℕ → Type 0
 IsAllowed bytes = (is_utf8 bytes ≡ true) × (list_all is_allowed (chars bytes) ≡ true)
 
+-- A piece of an expression: its value can be written, and the node of a slot is a name.
 abbrev pub IsPieceFine : Piece → Type 0
 IsPieceFine (piece.Int value span) = is_literal value ≡ true
 IsPieceFine (piece.Text value span) = IsAllowed value
@@ -68,6 +69,7 @@ IsPieceFine (piece.Binary sign span) = ⊤
 abbrev pub IsExprFine : NameExpr → Type 0
 IsExprFine expr = (is_some (tree_of expr.pieces) ≡ true) × AllByRecursion IsPieceFine expr.pieces
 
+-- The kind of a parameter, as the class of a node, may be spelled as a reserved word.
 abbrev pub IsParamFine : Param → Type 0
 IsParamFine param = IsName param.name × IsWord param.kind
 
@@ -75,23 +77,27 @@ abbrev pub IsElementFine : Element → Type 0
 IsElementFine (element.Node name class) = IsName name × IsWord class
 IsElementFine (element.Edge source target reference) = IsName source × IsName target × IsWord reference
 
+-- A simple item: its names are names, and its expression is one.
 abbrev pub IsSimpleFine : Simple → Type 0
 IsSimpleFine (simple.Marked mark element) = IsElementFine element
 IsSimpleFine (simple.Set node attribute value) = IsName node × IsWord attribute × IsExprFine value
 IsSimpleFine (simple.Where word test) = IsExprFine test
 
+-- An item, with all that stands in it.
 abbrev pub IsItemFine : Item → Type 0
 IsItemFine (item.Simple simple) = IsSimpleFine simple
 IsItemFine (item.Forbid elements) = AllByRecursion IsElementFine elements
 IsItemFine (item.Require elements) = AllByRecursion IsElementFine elements
 IsItemFine (item.Multi simples) = AllByRecursion IsSimpleFine simples
 
+-- A value in a call; its minus sign stands apart from its number.
 abbrev pub IsAtomFine : Atom → Type 0
 IsAtomFine (atom.Int minus value span) = is_literal value ≡ true
 IsAtomFine (atom.Text value span) = IsAllowed value
 IsAtomFine (atom.Bool value span) = ⊤
 IsAtomFine (atom.Name name) = IsName name
 
+-- What a call ties: a parameter of the callee, and a value or a variable.
 abbrev pub IsBindFine : Bind → Type 0
 IsBindFine (bind.Give parameter value) = IsName parameter × IsAtomFine value
 IsBindFine (bind.Take parameter variable) = IsName parameter × IsName variable
@@ -107,6 +113,7 @@ abbrev pub IsElseFine : Option Call → Type 0
 IsElseFine None = ⊤
 IsElseFine (Some call) = IsCallFine call
 
+-- The calls of a body, and how often one is made.
 abbrev pub IsBodyFine : Body → Type 0
 IsBodyFine (body.Sequential calls) = AllByRecursion IsCallFine calls
 IsBodyFine (body.Independent calls) = AllByRecursion IsCallFine calls
@@ -115,6 +122,7 @@ IsBodyFine (body.Conditional test then otherwise) = IsCallFine test × IsCallFin
 IsBodyFine (body.Loop call) = IsCallFine call
 IsBodyFine (body.Iterated count call) = IsCountFine count × IsCallFine call
 
+-- A rule or a unit, with its name, its parameters and its parts.
 abbrev pub IsDefinitionFine : Definition → Type 0
 IsDefinitionFine (definition.Rule rule) = IsName rule.name × AllByRecursion IsParamFine rule.params × AllByRecursion IsItemFine rule.items
 IsDefinitionFine (definition.Unit unit) = IsName unit.name × AllByRecursion IsParamFine unit.params × IsBodyFine unit.body

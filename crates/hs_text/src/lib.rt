@@ -1,9 +1,14 @@
-//! Rule and unit text as syntax: [`parse`] gives the syntax of a text, or its first fault.
+//! Rule and unit text as syntax: [`parse`] gives the syntax of a text, or its first fault, and
+//! [`print`] the canonical text of a syntax, which is read back as the same syntax.
 //!
 //! The tokens come from hs_tokens. They are read by a table of productions over a stack of what the
 //! rest of the text is made of ([`grammar`], [`table`], [`expand`], [`parser`]), and syntax is made
 //! as they are taken ([`builder`], [`words`]); so no text, however deep, overruns the machine's
 //! stack. What a text is say the definitions in `specs/Grammar.antt`.
+//!
+//! A syntax is written part by part ([`printing`], [`unit_printing`], [`spelling`]), an expression from
+//! its last piece to its first ([`arranging`]). What the canonical text is says
+//! `specs/Canonical.antt`, and what every syntax is `specs/WellFormed.antt`.
 #![tactic(auto)]
 
 ghost use Rattle.std.specs.Prelude.{◌≡◌, IfOk, IfErr, true};
