@@ -50,6 +50,57 @@ const JOINED: &str =
 {\"graph\":[{\"attrs\":{},\"class\":\"Account\",\"name\":\"a1\",\"refs\":{}},{\"attrs\":{},\"class\":\"Client\",\"name\":\"c1\",\"refs\":{}},{\"attrs\":{},\"class\":\"Account\",\"name\":\"a2\",\"refs\":{}},{\"attrs\":{},\"class\":\"Client\",\"name\":\"c2\",\"refs\":{\"accounts\":[\"a2\",\"a3\",\"a2\",\"#0\"]}},{\"attrs\":{},\"class\":\"Account\",\"name\":\"a3\",\"refs\":{}},{\"attrs\":{},\"class\":\"Account\",\"name\":\"#0\",\"refs\":{}},{\"attrs\":{},\"class\":\"Client\",\"name\":\"#1\",\"refs\":{\"accounts\":[\"#0\",\"a2\"]}}]}
 ";
 
+/// Two clients and two accounts, and the rule that joins a client and an account.
+const FOUR: &str = "\"graph\": [
+  {\"name\": \"c1\", \"class\": \"Client\"}, {\"name\": \"c2\", \"class\": \"Client\"},
+  {\"name\": \"a1\", \"class\": \"Account\"}, {\"name\": \"a2\", \"class\": \"Account\"}],
+\"rules\": \"rule pair() { preserve node c: Client; preserve node a: Account; create edge c -> a: accounts; }\",
+\"sessions\": [[{\"call\": \"pair\"}]]}";
+
+const FOUR_PAIRED: &str =
+    "{\"args\":{},\"attempt\":0,\"copies\":[],\"edges\":[],\"gone\":[],\"new\":[],\"nodes\":[\"c1\",\"a1\"],\"old\":[],\"outcome\":\"applied\",\"place\":0,\"request\":0,\"rule\":\"pair\",\"session\":0}
+{\"outs\":{},\"places\":[0],\"reply\":\"ok\",\"request\":0,\"session\":0}
+{\"graph\":[{\"attrs\":{},\"class\":\"Client\",\"name\":\"c1\",\"refs\":{\"accounts\":[\"a1\"]}},{\"attrs\":{},\"class\":\"Client\",\"name\":\"c2\",\"refs\":{}},{\"attrs\":{},\"class\":\"Account\",\"name\":\"a1\",\"refs\":{}},{\"attrs\":{},\"class\":\"Account\",\"name\":\"a2\",\"refs\":{}}]}
+";
+
+/// The same objects the other way round.
+const ROUND: &str = "\"graph\": [
+  {\"name\": \"a2\", \"class\": \"Account\"}, {\"name\": \"a1\", \"class\": \"Account\"},
+  {\"name\": \"c2\", \"class\": \"Client\"}, {\"name\": \"c1\", \"class\": \"Client\"}],
+\"rules\": \"rule pair() { preserve node c: Client; preserve node a: Account; create edge c -> a: accounts; }\",
+\"sessions\": [[{\"call\": \"pair\"}]]}";
+
+const ROUND_PAIRED: &str =
+    "{\"args\":{},\"attempt\":0,\"copies\":[],\"edges\":[],\"gone\":[],\"new\":[],\"nodes\":[\"c2\",\"a2\"],\"old\":[],\"outcome\":\"applied\",\"place\":0,\"request\":0,\"rule\":\"pair\",\"session\":0}
+{\"outs\":{},\"places\":[0],\"reply\":\"ok\",\"request\":0,\"session\":0}
+{\"graph\":[{\"attrs\":{},\"class\":\"Account\",\"name\":\"a2\",\"refs\":{}},{\"attrs\":{},\"class\":\"Account\",\"name\":\"a1\",\"refs\":{}},{\"attrs\":{},\"class\":\"Client\",\"name\":\"c2\",\"refs\":{\"accounts\":[\"a2\"]}},{\"attrs\":{},\"class\":\"Client\",\"name\":\"c1\",\"refs\":{}}]}
+";
+
+/// Three accounts, and a rule that wants three, no two of them the same.
+const THREE: &str = "\"graph\": [
+  {\"name\": \"a1\", \"class\": \"Account\"}, {\"name\": \"c1\", \"class\": \"Client\"},
+  {\"name\": \"a2\", \"class\": \"Account\"}, {\"name\": \"a3\", \"class\": \"Account\"}],
+\"rules\": \"rule three() { preserve node x: Account; preserve node y: Account; preserve node z: Account; create node c: Client; create edge c -> z: accounts; create edge c -> x: accounts; }\",
+\"sessions\": [[{\"call\": \"three\"}]]}";
+
+const THREE_FOUND: &str =
+    "{\"args\":{},\"attempt\":0,\"copies\":[],\"edges\":[],\"gone\":[],\"new\":[\"#0\"],\"nodes\":[\"a1\",\"a2\",\"a3\"],\"old\":[],\"outcome\":\"applied\",\"place\":0,\"request\":0,\"rule\":\"three\",\"session\":0}
+{\"outs\":{},\"places\":[0],\"reply\":\"ok\",\"request\":0,\"session\":0}
+{\"graph\":[{\"attrs\":{},\"class\":\"Account\",\"name\":\"a1\",\"refs\":{}},{\"attrs\":{},\"class\":\"Client\",\"name\":\"c1\",\"refs\":{}},{\"attrs\":{},\"class\":\"Account\",\"name\":\"a2\",\"refs\":{}},{\"attrs\":{},\"class\":\"Account\",\"name\":\"a3\",\"refs\":{}},{\"attrs\":{},\"class\":\"Client\",\"name\":\"#0\",\"refs\":{\"accounts\":[\"a3\",\"a1\"]}}]}
+";
+
+/// Two accounts are one too few for it.
+const TWO: &str = "\"graph\": [
+  {\"name\": \"a1\", \"class\": \"Account\"}, {\"name\": \"a2\", \"class\": \"Account\"}],
+\"rules\": \"rule three() { preserve node x: Account; preserve node y: Account; preserve node z: Account; }\",
+\"sessions\": [[{\"call\": \"three\"}]]}";
+
+const TWO_MISSED: &str =
+    "{\"args\":{},\"attempt\":0,\"outcome\":\"missed\",\"place\":0,\"request\":0,\"rule\":\"three\",\"session\":0}
+{\"outs\":{},\"places\":[0],\"reply\":\"nomatch\",\"request\":0,\"session\":0}
+{\"graph\":[{\"attrs\":{},\"class\":\"Account\",\"name\":\"a1\",\"refs\":{}},{\"attrs\":{},\"class\":\"Account\",\"name\":\"a2\",\"refs\":{}}]}
+";
+
 /// What a run is over: how the source and the sink move bytes, and which of their calls fail.
 #[derive(Clone, Copy)]
 struct Setting {
@@ -127,6 +178,45 @@ fn writes_the_report_of_the_least_match(rt: HostRuntime) -> Result<(), Fail> {
     writes(&rt, rt.alloc(), OPEN, OPENED)?;
     writes(&rt, rt.alloc(), PAIR, MISSED)?;
     writes(&rt, rt.alloc(), JOIN, JOINED)?;
+    Ok(())
+}
+
+#[test]
+fn goes_by_the_numbers_of_the_objects(rt: HostRuntime) -> Result<(), Fail> {
+    writes(&rt, rt.alloc(), FOUR, FOUR_PAIRED)?;
+    writes(&rt, rt.alloc(), ROUND, ROUND_PAIRED)?;
+    Ok(())
+}
+
+#[test]
+fn takes_an_object_once(rt: HostRuntime) -> Result<(), Fail> {
+    writes(&rt, rt.alloc(), THREE, THREE_FOUND)?;
+    writes(&rt, rt.alloc(), TWO, TWO_MISSED)?;
+    Ok(())
+}
+
+/// Checks that `apply` refuses a bundle with this rule text and this call.
+fn refuses_rule(rt: &impl Abort, alloc: Global, text: &str, call: &str) -> Result<(), AllocError> {
+    let rest = format!(in alloc; "\"graph\": [], \"rules\": \"{text}\", \"sessions\": [[{{\"call\": \"{call}\"}}]]}}")?;
+    let bytes = bundle(alloc, rest.as_str())?;
+    refuses(rt, alloc, bytes.as_slice(), text)
+}
+
+#[test]
+fn refuses_another_rule_text(rt: HostRuntime) -> Result<(), Fail> {
+    let alloc = rt.alloc();
+    let (status, _) = applied(
+        alloc,
+        bundle(alloc, "\"graph\": [], \"rules\": \"rule r() { }\", \"sessions\": [[{\"call\": \"r\"}]]}")?,
+        plain(),
+    )?;
+    assert_eq!(rt; status, Status::Done);
+    refuses_rule(&rt, alloc, "rule r() { }", "s")?;
+    refuses_rule(&rt, alloc, "rule r() { } ;", "r")?;
+    refuses_rule(&rt, alloc, "rule r() { } rule s() { }", "r")?;
+    refuses_rule(&rt, alloc, "rule r() { preserve node c: Bank; }", "r")?;
+    refuses_rule(&rt, alloc, "rule r() { delete node c: Client; }", "r")?;
+    refuses_rule(&rt, alloc, "", "r")?;
     Ok(())
 }
 
