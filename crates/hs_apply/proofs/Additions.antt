@@ -1,5 +1,5 @@
 -- What is made, item by item, and the plan of a rule that only adds.
-use Rattle.std.proofs.Common.{ℕ, zero, suc, ◌+◌, ◌<◌, ◌≤◌, ◌≡◌, List, [], ◌∷◌, ◌++◌, Bool, true, false, not, cond, eqb, map, take, drop, length, get_or, Option, Some, None, IsSomeAnd, slice_get, refl, sym, ap, ◌∙◌, inl, inr, arith, append-nil}
+use Rattle.std.proofs.Common.{ℕ, ◌+◌, ◌≤◌, ◌≡◌, List, [], ◌∷◌, ◌++◌, Bool, true, false, map, length, Option, Some, None, refl, ap, inl, inr, arith, append-nil}
 use Rattle.std.specs.List.{All, filter, filter_map}
 use Rattle.std.specs.Option.{is_some, option_map, option_and_then}
 use Rattle.std.proofs.lemmas.Bool.{cases_Bool}
@@ -21,7 +21,7 @@ use Rattle.hs_types.specs.declared.rule.PatternNode.{PatternNode}
 use Rattle.hs_types.specs.declared.rule.Rule.{Rule}
 use Rattle.hs_types.specs.Dangling.{dropped_nodes, dropped_edges}
 use Rattle.hs_types.specs.Lists.{beside}
-use Rattle.hs_types.specs.Metamodel.{attributes_of, default_of, default_of_kind, feature_at, features_of, type_of, type_of_kind}
+use Rattle.hs_types.specs.Metamodel.{default_of, default_of_kind, feature_at, features_of, type_of, type_of_kind}
 use Rattle.hs_types.specs.Pattern.{is_drop, is_left, is_make, left_nodes, left_edges, made_edges, made_nodes}
 use Rattle.hs_types.specs.Plan.{edges_for, end_of, made_slots, objects_for, plan_of}
 use Rattle.hs_types.specs.PlainMatch.{kernel_of}
@@ -106,10 +106,10 @@ all_kept (x ∷ xs) = ap (λ rest. x ∷ rest) (all_kept xs)
 
 -- The step of a plan that only makes.
 pub step_makes : (g : Graph) (plan : Plan) → OnlyMakes plan → ◌≡◌ {A = Graph} (step g plan) record {
-    objects = g.objects ++ new_objects g.next_object g.next_name plan.make_objects;
-    edges = g.edges ++ new_edges g.next_object g.next_edge plan.make_edges;
-    next_object = g.next_object + length plan.make_objects;
-    next_edge = g.next_edge + length plan.make_edges;
-    next_name = g.next_name + length plan.make_objects;
-  }
+  objects = g.objects ++ new_objects g.next_object g.next_name plan.make_objects;
+  edges = g.edges ++ new_edges g.next_object g.next_edge plan.make_edges;
+  next_object = g.next_object + length plan.make_objects;
+  next_edge = g.next_edge + length plan.make_edges;
+  next_name = g.next_name + length plan.make_objects;
+}
 step_makes g plan only = rw (only.objects_stay, only.edges_stay, only.slots_stay) (rw (all_kept g.objects, all_kept g.edges, rewritten_none g.objects) refl)

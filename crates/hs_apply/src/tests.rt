@@ -120,7 +120,10 @@ fn plans_what_a_rule_makes(rt: HostRuntime) -> Result<(), Fail> {
         return Err(Fail::new("the rule only adds"));
     }
     let plan = plan(alloc, &meta, &rule, &found)?;
-    assert_eq!(rt; plan.drop_objects.len() + plan.drop_edges.len() + plan.writes.len(), 0);
+    assert_eq!(rt;
+        plan.drop_objects.len() + plan.drop_edges.len() + plan.writes.len(),
+        0
+    );
     assert_eq!(rt; plan.make_objects.len(), 2);
     for object in plan.make_objects.as_slice() {
         assert_eq!(rt; object.class, 1);

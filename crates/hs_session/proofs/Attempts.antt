@@ -1,6 +1,5 @@
 -- An attempt of a rule that only adds, at a valid match, tells what it did.
-use Rattle.std.proofs.Common.{ℕ, ◌+◌, ◌≤◌, ◌≡◌, List, [], length, Option, Some, None, refl, ap, ◌∙◌, subst, arith}
-use Rattle.std.specs.Prelude.{IfSome}
+use Rattle.std.proofs.Common.{ℕ, ◌≤◌, ◌≡◌, List, [], length, Some, refl, ap, ◌∙◌, subst, arith}
 use Rattle.std.specs.Option.{option_map, unwrap_or}
 use Rattle.hs_types.specs.declared.entry.Cause.{Cause}
 use Rattle.hs_types.specs.declared.entry.Cause.TheVariants as cause
@@ -15,7 +14,7 @@ use Rattle.hs_types.specs.Metamodel.{IsMeta}
 use Rattle.hs_types.specs.Plan.{Fits, plan_of}
 use Rattle.hs_types.specs.Step.{step}
 use Rattle.hs_types.specs.TypedGraph.{IsTyped}
-use Rattle.hs_types.specs.ValidMatch.{IsLeast, IsValid}
+use Rattle.hs_types.specs.ValidMatch.{IsValid}
 use Rattle.hs_finding.specs.FirstMatch.{no_args}
 use Rattle.hs_apply.specs.Additions.{OnlyMakes}
 use Rattle.hs_laws.proofs.Fitting.{plan-fits}

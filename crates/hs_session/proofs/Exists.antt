@@ -1,7 +1,6 @@
 -- Of one request there is a serial report.
-use Rattle.std.proofs.Common.{ℕ, ◌<◌, ◌≤◌, ◌≡◌, List, [], ◌∷◌, length, Option, Some, None, slice_get, refl, sym, subst, lit<}
-use Rattle.std.specs.List.{All, filter_map}
-use Rattle.std.specs.Arc.{arc_value}
+use Rattle.std.proofs.Common.{ℕ, ◌≤◌, ◌≡◌, [], ◌∷◌, length, Option, Some, None, slice_get, refl, sym, subst, lit<}
+use Rattle.std.specs.List.{filter_map}
 use Rattle.hs_types.specs.declared.entry.Cause.{Cause}
 use Rattle.hs_types.specs.declared.entry.Cause.TheVariants as cause
 use Rattle.hs_types.specs.declared.entry.MatchNames.{MatchNames}
@@ -19,7 +18,7 @@ use Rattle.hs_types.specs.declared.unit.RuleSet.{RuleSet}
 use Rattle.hs_types.specs.Journal.{OutcomeAsks, after_outcome, meta_of, new_names}
 use Rattle.hs_types.specs.Plan.{plan_of}
 use Rattle.hs_types.specs.TypedGraph.{IsTyped, name_at}
-use Rattle.hs_types.specs.ValidMatch.{IsFirst, IsLeast, NoneIsValid}
+use Rattle.hs_types.specs.ValidMatch.{IsFirst, NoneIsValid}
 use Rattle.hs_finding.specs.FirstMatch.{no_args}
 use Rattle.hs_apply.specs.Additions.{OnlyMakes}
 use Rattle.hs_apply.proofs.Additions.{few_edges, few_objects, plan_adds}
@@ -75,7 +74,12 @@ one_exists rules opening request called rule answer typed named found runs args 
     let tried : Tried = record { attempt = 0; rule = called; args = no_args; outcome = outcome; attempt_bound = lit< tt } in
     let graph : ListGraph = record { meta = rules.meta; graph = after_outcome (meta_of rules) opening rule no_args outcome } in
     let made : Made rules opening request rule tried = record {
-      called = named; found = found; asked_args = args; tried_args = refl; first = refl; no_params = runs.no_params;
+      called = named;
+      found = found;
+      asked_args = args;
+      tried_args = refl;
+      first = refl;
+      no_params = runs.no_params;
       told = told (meta_of rules) opening rule answer typed runs first;
       least = least_of (meta_of rules) opening rule answer typed runs first;
     } in

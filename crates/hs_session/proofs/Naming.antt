@@ -1,8 +1,7 @@
 -- A match has one way to be named.
-use Rattle.std.proofs.Common.{ℕ, ◌≡◌, ◌≤◌, List, [], ◌∷◌, map, Bool, true, eqb, Option, Some, None, refl, ap, sym, ◌∙◌}
-use Rattle.std.specs.List.{All, find}
+use Rattle.std.proofs.Common.{ℕ, ◌≡◌, ◌≤◌, List, [], ◌∷◌, eqb, Option, Some, None, refl, ap, sym, ◌∙◌}
+use Rattle.std.specs.List.{find}
 use Rattle.std.specs.Option.{option_map, option_and_then}
-use Rattle.hs_types.specs.declared.entry.ExtensionNames.{ExtensionNames}
 use Rattle.hs_types.specs.declared.entry.MatchNames.{MatchNames}
 use Rattle.hs_types.specs.declared.graph.Graph.{Graph}
 use Rattle.hs_types.specs.declared.graph.Object.{Object}

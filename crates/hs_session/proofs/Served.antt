@@ -1,8 +1,7 @@
 -- The report of one request is serial.
-use Rattle.std.proofs.Common.{ℕ, zero, suc, ◌<◌, ◌≡◌, List, [], ◌∷◌, length, Option, Some, None, IsSomeAnd, slice_get, refl, ap, sym, ◌∙◌, arith, take}
+use Rattle.std.proofs.Common.{ℕ, zero, suc, ◌≡◌, [], ◌∷◌, Option, Some, None, slice_get, refl, ap, sym, ◌∙◌, arith, take}
 use Rattle.std.specs.Prelude.{IfSome}
 use Rattle.std.specs.Arc.{arc_value}
-use Rattle.std.specs.List.{All, AllZip}
 use Rattle.std.specs.Option.{option_map, unwrap_or}
 use Rattle.std.proofs.lemmas.List.Elements.{All-nil}
 use Rattle.hs_types.specs.declared.entry.Cause.{Cause}
@@ -16,18 +15,15 @@ use Rattle.hs_types.specs.declared.graph.Graph.{Graph}
 use Rattle.hs_types.specs.declared.graph.ListGraph.{ListGraph}
 use Rattle.hs_types.specs.declared.matching.Match.{Match}
 use Rattle.hs_types.specs.declared.request.Request.{Request}
-use Rattle.hs_types.specs.declared.rule.Param.{Param}
 use Rattle.hs_types.specs.declared.rule.Rule.{Rule}
 use Rattle.hs_types.specs.declared.unit.RuleSet.{RuleSet}
 use Rattle.hs_types.specs.Arguments.{ArgsFit}
 use Rattle.hs_types.specs.Journal.{IsLawfulEntry, IsLawfulTry, OutcomeAsks, after_journal, after_outcome, match_named, meta_of, rule_of, tries_in}
 use Rattle.hs_finding.specs.FirstMatch.{no_args}
 use Rattle.hs_laws.proofs.Lists.{All-one}
-use Rattle.hs_session.specs.declared.report.Out.{Out}
 use Rattle.hs_session.specs.declared.report.Reply.{Reply}
-use Rattle.hs_session.specs.declared.report.Report.{Report}
 use Rattle.hs_session.specs.Answers.{IsFor, Says, course_of, rule_named}
-use Rattle.hs_session.specs.LawfulReport.{Asked, IsAnswer, IsAsked, IsLawfulReport, IsSingle, outs_at, outs_by_word, outs_of_outcome, outs_of_try}
+use Rattle.hs_session.specs.LawfulReport.{IsAnswer, IsAsked, IsSingle, outs_at, outs_by_word, outs_of_outcome}
 use Rattle.hs_session.specs.Runnable.{word_for}
 use Rattle.hs_session.specs.SerialReport.{AreLeastTries, IsLeastOutcome, IsSerialReport}
 
@@ -79,37 +75,37 @@ lawful_try rules opening request rule tried made cause.Old = rw (made.found, mad
 
 lawful_entry : (rules : RuleSet) (opening : Graph) (request : Request) (rule : Rule) (tried : Tried) → Made rules opening request rule tried → IsLawfulEntry rules [] opening 0 (first_entry tried)
 lawful_entry rules opening request rule tried made = record {
-    numbered = record { at_its_place = refl; within_sessions = omega arith; not_behind = All-nil _; tries_numbered = ap (λ n. n ∷ []) made.first };
-    tries = (lawful_try rules opening request rule tried made, tt);
-  }
+  numbered = record { at_its_place = refl; within_sessions = omega arith; not_behind = All-nil _; tries_numbered = ap (λ n. n ∷ []) made.first };
+  tries = (lawful_try rules opening request rule tried made, tt);
+}
 
 answer : (rules : RuleSet) (opening : Graph) (request : Request) (rule : Rule) (tried : Tried) → Made rules opening request rule tried →
     IsAnswer rules opening (first_entry tried ∷ []) (record { session = 0; number = 0; request = request }) (first_reply tried.outcome)
 answer rules opening request rule tried made = record {
-    of_session = refl;
-    of_request = refl;
-    at_places = refl;
-    single = All-one (λ (placed : ℕ × Entry). IsSingle placed.1.what) (0, first_entry tried) tt;
-    tries_for = All-one (IsFor rules request) tried (record { rule = made.called; args = rw (made.tried_args, made.asked_args) refl });
-    says = (course_of tried.outcome, refl, says_word tried.outcome);
-    gives = rw (made.found, no_outs opening rule tried.outcome made.no_params) (sym (silent tried.outcome));
-  }
+  of_session = refl;
+  of_request = refl;
+  at_places = refl;
+  single = All-one (λ (placed : ℕ × Entry). IsSingle placed.1.what) (0, first_entry tried) tt;
+  tries_for = All-one (IsFor rules request) tried (record { rule = made.called; args = rw (made.tried_args, made.asked_args) refl });
+  says = (course_of tried.outcome, refl, says_word tried.outcome);
+  gives = rw (made.found, no_outs opening rule tried.outcome made.no_params) (sym (silent tried.outcome));
+}
 
 -- One attempt at the least match, or none where none is valid, makes a serial report.
 pub serial_one : (rules : RuleSet) (opening : Graph) (request : Request) (rule : Rule) (tried : Tried) (graph : ListGraph) → Made rules opening request rule tried →
     graph.graph ≡ after_outcome (meta_of rules) opening rule no_args tried.outcome → arc_value graph.meta ≡ meta_of rules →
     IsSerialReport rules opening ((request ∷ []) ∷ []) (record { journal = first_entry tried ∷ []; replies = first_reply tried.outcome ∷ []; graph = graph })
 serial_one rules opening request rule tried graph made after model = record {
-    lawful = record {
-      lawful = lawful;
-      all_were_asked = All-one (IsAsked ((request ∷ []) ∷ [])) (first_entry tried) (omega arith);
-      answered = (answer rules opening request rule tried made, tt);
-      graph_after = rw (made.found, made.tried_args) after;
-      same_model = model;
-    };
-    in_order = (All-nil _, tt);
-    least = least;
-  }
+  lawful = record {
+    lawful = lawful;
+    all_were_asked = All-one (IsAsked ((request ∷ []) ∷ [])) (first_entry tried) (omega arith);
+    answered = (answer rules opening request rule tried made, tt);
+    graph_after = rw (made.found, made.tried_args) after;
+    same_model = model;
+  };
+  in_order = (All-nil _, tt);
+  least = least;
+}
   where
     lawful : (place : ℕ) → IfSome (slice_get (first_entry tried ∷ []) place) (IsLawfulEntry rules (take place (first_entry tried ∷ [])) (after_journal rules opening (take place (first_entry tried ∷ []))) place)
     lawful zero = lawful_entry rules opening request rule tried made

@@ -1,16 +1,13 @@
 -- Of one request there is one serial report.
-use Rattle.std.proofs.Common.{ℕ, zero, suc, ◌+◌, ◌^◌, ◌<◌, ◌≤◌, ◌≡◌, List, [], ◌∷◌, ◌++◌, map, length, Bool, true, false, ◌&&◌, eqb, Option, Some, None, IsSomeAnd, slice_get, refl, ap, sym, ◌∙◌, subst, arith, take}
+use Rattle.std.proofs.Common.{ℕ, zero, suc, ◌+◌, ◌^◌, ◌<◌, ◌≡◌, List, [], ◌∷◌, ◌++◌, map, length, true, ◌&&◌, eqb, Option, Some, None, IsSomeAnd, slice_get, refl, ap, sym, ◌∙◌, subst, arith}
 use Rattle.std.proofs.Math.Bridge.{le_prop}
 use mathlib.Core.HLevel.{is_prop→PathP}
 use Rattle.std.specs.Prelude.{IfSome}
-use Rattle.std.specs.Arc.{arc_value}
-use Rattle.std.specs.List.{All, AllZip, filter, find, flat_map, enumerate_from}
-use Rattle.std.specs.Option.{option_map, option_and_then}
+use Rattle.std.specs.List.{All, AllZip, filter, flat_map, enumerate_from}
 use Rattle.std.proofs.lemmas.List.Elements.{All-head, All-tail}
 use Rattle.hs_types.specs.declared.entry.Cause.{Cause}
 use Rattle.hs_types.specs.declared.entry.Cause.TheVariants as cause
 use Rattle.hs_types.specs.declared.entry.Entry.{Entry}
-use Rattle.hs_types.specs.declared.entry.MatchNames.{MatchNames}
 use Rattle.hs_types.specs.declared.entry.Outcome.{Outcome}
 use Rattle.hs_types.specs.declared.entry.Outcome.TheVariants.{Applied, Missed}
 use Rattle.hs_types.specs.declared.entry.Tried.{Tried}
@@ -30,12 +27,11 @@ use Rattle.hs_types.specs.Step.{step}
 use Rattle.hs_types.specs.TypedGraph.{IsTyped}
 use Rattle.hs_types.specs.ValidMatch.{IsLeast, IsValid}
 use Rattle.hs_laws.proofs.Earlier.{IsLeast-same}
-use Rattle.hs_laws.proofs.Lists.{All-one}
 use Rattle.hs_session.specs.declared.report.Reply.{Reply}
 use Rattle.hs_session.specs.declared.report.Report.{Report}
 use Rattle.hs_session.specs.declared.report.Word.{Word}
 use Rattle.hs_session.specs.declared.report.Word.TheVariants as word
-use Rattle.hs_session.specs.Answers.{Course, IsFor, Leads, Says, asks, course_of, done, failed, rule_named}
+use Rattle.hs_session.specs.Answers.{Course, IsFor, Leads, Says, asks, course_of}
 use Rattle.hs_session.specs.LawfulReport.{Asked, IsAnswer, IsAsked, IsSingle, entries_of, outs_by_word, outs_in, tries_of}
 use Rattle.hs_session.specs.Runnable.{word_for}
 use Rattle.hs_session.specs.SerialReport.{AreLeast, HadMemory, IsLeastOutcome, IsLeastTry, IsSerialReport}
@@ -163,14 +159,17 @@ the_try rules opening request journal r lawful asked least answer memory =
     let journal_is : journal ≡ record { session = 0; request = 0; what = One tried.0 } ∷ [] = entry.1 ∙ ap (λ (e : Entry). e ∷ []) is_first in
     let lawful_first : IsLawful rules opening (record { session = 0; request = 0; what = One tried.0 } ∷ []) = subst (IsLawful rules opening) journal_is lawful in
     let least_first : AreLeast rules opening (record { session = 0; request = 0; what = One tried.0 } ∷ []) = subst (AreLeast rules opening) journal_is least in
-    let for : All (IsFor rules request) (tried.0 ∷ []) = subst (All (IsFor rules request)) tried.1 answer.tries_for in
-    (tried.0, record {
-      journal_is = journal_is;
-      first = head_of (lawful_first 0).numbered.tries_numbered;
-      is_for = All-head (IsFor rules request) tried.0 [] for;
-      lawful = (lawful_first 0).tries.0;
-      least = (least_first 0).0;
-    }, tried.2)
+    let for : All (IsFor rules request) (tried.0 ∷ []) = subst (All (IsFor rules request)) tried.1 answer.tries_for in (
+      tried.0,
+      record {
+        journal_is = journal_is;
+        first = head_of (lawful_first 0).numbered.tries_numbered;
+        is_for = All-head (IsFor rules request) tried.0 [] for;
+        lawful = (lawful_first 0).tries.0;
+        least = (least_first 0).0;
+      },
+      tried.2,
+    )
 
 told : (rules : RuleSet) (g : Graph) (t : Tried) (rule : Rule) → rule_of rules t ≡ Some rule → IsLawfulTry rules g t → (asked : Cause) → OutcomeAsks (meta_of rules) g rule t.args t.outcome asked
 told rules g t rule e lawful cause.Rule = nothing t.outcome

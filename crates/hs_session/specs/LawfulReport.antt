@@ -1,10 +1,9 @@
 -- Lawful reports: a lawful journal, its graph, and to each request the reply that its entries call for.
-use Rattle.std.specs.Prelude.{ℕ, ◌<◌, ◌≡◌, List, [], ◌∷◌, map, take, length, ◌&&◌, not, eqb, IsSomeAnd, slice_get}
+use Rattle.std.specs.Prelude.{ℕ, ◌<◌, ◌≡◌, List, [], map, take, length, ◌&&◌, not, eqb, IsSomeAnd, slice_get}
 use Rattle.std.specs.Arc.{arc_value}
 use Rattle.std.specs.List.{All, AllZip, filter, filter_map, flat_map, enumerate_from}
 use Rattle.std.specs.Option.{option_map, unwrap_or}
 use Rattle.hs_types.specs.declared.entry.Entry.{Entry}
-use Rattle.hs_types.specs.declared.entry.MatchNames.{MatchNames}
 use Rattle.hs_types.specs.declared.entry.Outcome.{Outcome}
 use Rattle.hs_types.specs.declared.entry.Outcome.TheVariants.{Applied, Missed}
 use Rattle.hs_types.specs.declared.entry.Tried.{Tried}

@@ -1,5 +1,5 @@
 -- What a run asks of a rule that it applies once, without arguments.
-use Rattle.std.specs.Prelude.{ℕ, ◌+◌, ◌^◌, ◌≤◌, ◌≡◌, [], length}
+use Rattle.std.specs.Prelude.{◌+◌, ◌^◌, ◌≤◌, ◌≡◌, [], length}
 use Rattle.hs_types.specs.declared.entry.Outcome.{Outcome}
 use Rattle.hs_types.specs.declared.entry.Outcome.TheVariants.{Applied, Missed}
 use Rattle.hs_types.specs.declared.graph.Graph.{Graph}

@@ -15,7 +15,6 @@ use Rattle.hs_types.specs.Journal.{after_journal, after_try, match_named, meta_o
 use Rattle.hs_types.specs.Lists.{EachPair}
 use Rattle.hs_types.specs.ValidMatch.{IsLeast}
 use Rattle.hs_session.specs.declared.report.Report.{Report}
-use Rattle.hs_session.specs.declared.report.Reply.{Reply}
 use Rattle.hs_session.specs.declared.report.Word.TheVariants as word
 use Rattle.hs_session.specs.LawfulReport.{IsLawfulReport}
 

@@ -116,12 +116,7 @@ fn word_for(outcome: &Outcome) -> Word
 }
 
 /// Applies the rule at its least valid match, or misses where there is none.
-fn attempt(
-    alloc: Global,
-    meta: &Meta,
-    graph: Graph,
-    rule: &Rule,
-) -> Result<Attempted, AllocError>
+fn attempt(alloc: Global, meta: &Meta, graph: Graph, rule: &Rule) -> Result<Attempted, AllocError>
     requires model { IsMeta meta.now }
     requires typed { IsTyped meta.now graph }
     requires runnable { IsRunnable meta.now graph rule.now }
@@ -186,11 +181,7 @@ fn names_of_match(
 }
 
 /// The names of the objects at these numbers.
-fn names_of(
-    alloc: Global,
-    graph: &Graph,
-    numbers: &[ObjectNo],
-) -> Result<List<Text>, AllocError>
+fn names_of(alloc: Global, graph: &Graph, numbers: &[ObjectNo]) -> Result<List<Text>, AllocError>
     ensures { IfOk result (λ names. names ≡ filter_map (name_at graph.now) numbers.now) }
 {
     let mut names = List::new(alloc);

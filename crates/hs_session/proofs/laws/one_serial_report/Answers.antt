@@ -1,4 +1,4 @@
-use Rattle.std.proofs.Common.{◌≡◌, Some, IsSomeAnd, ◌∙◌, subst}
+use Rattle.std.proofs.Common.{◌≡◌, IsSomeAnd, ◌∙◌, subst}
 use Rattle.std.specs.Prelude.{Option}
 use Rattle.hs_types.specs.declared.meta.Meta.{Meta}
 use Rattle.hs_types.specs.declared.rule.Rule.{Rule}

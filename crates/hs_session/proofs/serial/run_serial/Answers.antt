@@ -1,9 +1,7 @@
-use Rattle.std.proofs.Common.{◌≡◌, ap, sym, ◌∙◌, refl, Some, slice_get, IsSomeAnd, subst}
+use Rattle.std.proofs.Common.{◌≡◌, ap, sym, ◌∙◌, Some, IsSomeAnd, subst}
 use Rattle.std.specs.Prelude.{Option}
-use Rattle.hs_types.specs.declared.meta.Meta.{Meta}
 use Rattle.hs_types.specs.declared.rule.Rule.{Rule}
-use Rattle.hs_types.specs.Journal.{meta_of, rule_of}
-use Rattle.hs_finding.specs.FirstMatch.{no_args}
+use Rattle.hs_types.specs.Journal.{meta_of}
 use Rattle.hs_session.specs.Runnable.{IsRunnable}
 use Rattle.hs_session.proofs.Served.{Made, serial_told}
 use Rattle.hs_session.proofs.serial.run_serial.Goals as goal
