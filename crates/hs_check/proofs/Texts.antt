@@ -1,3 +1,5 @@
+use Rattle.std.specs.Prelude.{Result, Ok, Err, IfOk}
+use Rattle.std.specs.Str.{chars}
 use Rattle.std.proofs.Common.{ℕ, ◌≡◌, List, Some, None, sym, subst, ap, ◌∙◌}
 use Rattle.hs_tokens.specs.declared.token.Token.{Token}
 use Rattle.hs_tokens.specs.declared.fault.FaultKind.{FaultKind}
@@ -12,7 +14,9 @@ use Rattle.hs_text.specs.Parsing.{AreTokens, IsSyntaxOf, IsTextFault}
 use Rattle.hs_text.proofs.Judged.{no-wrong, one, text-right}
 use Rattle.hs_types.specs.declared.meta.Meta.{Meta}
 use Rattle.hs_types.specs.declared.rule.Rule.{Rule}
-use Rattle.hs_check.specs.Meaning.{meaning_of, rule_of}
+use Rattle.hs_check.specs.declared.fault.RuleFault.{RuleFault}
+use Rattle.hs_check.specs.Answers.{Gives}
+use Rattle.hs_check.specs.Meaning.{IsRuleOf, meaning_of, rule_of}
 use Rattle.hs_check.specs.Steps.{◌>>=◌}
 use Rattle.hs_check.specs.Written.{only_rule}
 use Rattle.hs_check.proofs.Steps.{Some-inside}
@@ -63,3 +67,8 @@ one-rule source m s t r q a b x y = Some-inside (sym x ∙ same-meaning source m
 -- Where the syntax of a text means nothing, the text has no rule.
 pub no-rule : (source : List ℕ) (m : Meta) (s : Syntax) → IsSyntaxOf source s → rule_of m s ≡ None → (r : Rule) (t : Syntax) → IsSyntaxOf source t → rule_of m t ≡ Some r → ⊥
 no-rule source m s a none r t b y = let e : Some r ≡ None = sym y ∙ sym (same-meaning source m s t a b) ∙ none in absurd (cc)
+
+-- What a syntax of the text comes to is what the text means.
+pub means-it : (m : Meta) (text : List ℕ) (s : Syntax) (answer : Result Rule RuleFault) → IsSyntaxOf (chars text) s → Gives answer (rule_of m s) → IfOk answer (IsRuleOf m text)
+means-it m text s (Ok rule) is gives = (s, is, gives)
+means-it m text s (Err fault) is gives = tt
