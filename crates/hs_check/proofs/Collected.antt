@@ -1,12 +1,6 @@
-use Rattle.std.proofs.Common.{ℕ, suc, ◌+◌, ◌<◌, ◌≤◌, ◌≡◌, ◌++◌, List, [], ◌∷◌, Option, Some, None, is_some, drop, length, get_or, append_assoc, cond, refl, ap, sym, ◌∙◌}
-use Rattle.std.proofs.lemmas.List.{append-nil, drop_more, drop_all}
+use Rattle.std.proofs.Common.{suc, ◌≡◌, List, [], ◌∷◌, Option, Some, None, is_some, length, cond, refl, ap}
 use Rattle.std.specs.List.{filter, filter_map, cons_option}
-use Rattle.std.specs.Option.{option_map, option_and_then}
 use Rattle.hs_types.specs.Lists.{map_all}
-use Rattle.hs_check.specs.Answers.{Fails, in_front}
-use Rattle.hs_check.proofs.Steps.{Some-inside}
-use Rattle.hs_check.specs.declared.fault.RuleFault.{RuleFault}
-use Rattle.hs_check.specs.declared.fault.RuleFault.TheVariants.{NotBuilt, NoMemory}
 
 -- What is collected from items: what `make` makes of each thing that an item declares.
 abbrev pub collected : {X W Y : Type 0} → (X → Option W) → (W → Option Y) → List X → Option (List Y)
