@@ -173,6 +173,141 @@ unit pay(in c: Client, in from: Account, in to: Account, in amount: int, out n: 
     Ok(())
 }
 
+#[test]
+fn further_rules_and_units_are_read_back(rt: HostRuntime) -> Result<(), Fail> {
+    let cases = [
+        (
+            "rule openAccount(in c: Client, out a: Account) {
+  preserve node c: Client; create node a: Account;
+  create edge c -> a: accounts;
+}
+rule dropClient(in c: Client) { delete node c: Client; }
+rule dropAccount(in a: Account) { delete node a: Account; }
+rule unlink(in c: Client, in a: Account) {
+  preserve node c: Client; preserve node a: Account;
+  delete edge c -> a: accounts;
+}
+rule two() { preserve node x: Account; preserve node y: Account; }",
+            "rule openAccount(in c: Client, out a: Account) {
+  preserve node c: Client;
+  create node a: Account;
+  create edge c -> a: accounts;
+}
+
+rule dropClient(in c: Client) {
+  delete node c: Client;
+}
+
+rule dropAccount(in a: Account) {
+  delete node a: Account;
+}
+
+rule unlink(in c: Client, in a: Account) {
+  preserve node c: Client;
+  preserve node a: Account;
+  delete edge c -> a: accounts;
+}
+
+rule two() {
+  preserve node x: Account;
+  preserve node y: Account;
+}
+",
+        ),
+        (
+            "rule add(in a: Account) {
+  preserve node a: Account; set a.balance = a.balance + 1;
+}
+rule touch() {
+  preserve node q: Client; preserve node p: Account;
+  preserve edge q -> p: accounts; preserve edge q -> p: accounts;
+}
+rule unassign(in a: Account, in c: Client) {
+  preserve node a: Account; preserve node c: Client;
+  delete edge a -> c: owner;
+}
+rule openOwned(in c: Client, out a: Account) {
+  preserve node c: Client; create node a: Account;
+  create edge a -> c: owner;
+}",
+            "rule add(in a: Account) {
+  preserve node a: Account;
+  set a.balance = a.balance + 1;
+}
+
+rule touch() {
+  preserve node q: Client;
+  preserve node p: Account;
+  preserve edge q -> p: accounts;
+  preserve edge q -> p: accounts;
+}
+
+rule unassign(in a: Account, in c: Client) {
+  preserve node a: Account;
+  preserve node c: Client;
+  delete edge a -> c: owner;
+}
+
+rule openOwned(in c: Client, out a: Account) {
+  preserve node c: Client;
+  create node a: Account;
+  create edge a -> c: owner;
+}
+",
+        ),
+        (
+            "rule reset(in a: Account) {
+  preserve node a: Account; set a.balance = 0;
+  forbid { node d: Client; edge a -> d: owner; }
+}
+rule wide() {
+  preserve node n0: Client; preserve node n1: Client;
+  preserve node n6: Client; delete edge n0 -> n1: knows;
+}
+unit nothing() sequential { }
+unit spin() loop { nothing(); }
+unit never(in a: Account) iterated 0 { add(a = a); }
+unit both(in a: Account) conditional { if add(a = a); then add(a = a); }",
+            "rule reset(in a: Account) {
+  preserve node a: Account;
+  set a.balance = 0;
+  forbid {
+    node d: Client;
+    edge a -> d: owner;
+  }
+}
+
+rule wide() {
+  preserve node n0: Client;
+  preserve node n1: Client;
+  preserve node n6: Client;
+  delete edge n0 -> n1: knows;
+}
+
+unit nothing() sequential {
+}
+
+unit spin() loop {
+  nothing();
+}
+
+unit never(in a: Account) iterated 0 {
+  add(a = a);
+}
+
+unit both(in a: Account) conditional {
+  if add(a = a);
+  then add(a = a);
+}
+",
+        ),
+    ];
+    for (text, wanted) in cases {
+        assert!(rt; becomes(rt.alloc(), text, wanted)?, "{text}");
+    }
+    Ok(())
+}
+
 // The length of the canonical text of a condition with a million operators.
 fn printed_len(alloc: Global, operator: &str, end: &str) -> Result<usize, AllocError> {
     let mut text = String::from_str(alloc, "rule r() { where ")?;
