@@ -29,6 +29,8 @@ use Rattle.hs_apply.proofs.Additions.{few_left}
 use Rattle.hs_finding.specs.FirstMatch.{no_args}
 use Rattle.hs_session.specs.Runnable.{IsRunnable}
 use Rattle.hs_session.proofs.Naming.{head_of}
+use Rattle.hs_json.specs.declared.fault.BundleFault.{BundleFault}
+use Rattle.hs_json.specs.declared.fault.BundleFault.TheVariants as bundle
 use Rattle.hs_check.specs.declared.fault.RuleFault.{RuleFault}
 use Rattle.hs_check.specs.declared.fault.RuleFault.TheVariants as rule
 use Rattle.hs_laws.proofs.Lists.{All-one}
@@ -37,7 +39,10 @@ use Rattle.hs_session.specs.SerialReport.{IsSerialReport}
 use Rattle.henshin.specs.declared.fault.Refusal.{Refusal}
 use Rattle.henshin.specs.declared.fault.Refusal.TheVariants as refused
 use Rattle.henshin.specs.Bundle.{HasNoBundle, IsBundle, IsServed, IsSetOf}
-use Rattle.henshin.specs.Refusing.{of_rule}
+use Rattle.henshin.specs.Refusing.{of_bundle, of_rule}
+use Rattle.henshin.specs.declared.status.Status.{Status}
+use Rattle.henshin.specs.Ending.{IsRun, Writes}
+use Rattle.henshin.specs.ReportText.{report_text}
 use Rattle.std.proofs.lemmas.Option.{same_Some}
 use Rattle.std.specs.Str.{chars}
 
@@ -124,3 +129,27 @@ refuted b P told fails holds = let passes : b ≡ true = told.1 holds in absurd 
 pub none_left : (left : Option (List ℕ)) (Rest : List ℕ → Type 0) (read : List ℕ) → IfSome left (λ bytes. (read ≡ bytes) × Rest bytes) → HasNoBundle read → IfSome left HasNoBundle
 none_left None Rest read whole none = tt
 none_left (Some bytes) Rest read whole none = subst HasNoBundle whole.0 none
+
+-- A fault of the bundle's reading is not built to the program exactly where it is so itself.
+pub bundle_refused : {A : Type 0} (r : Result A Refusal) (fault : BundleFault) (H : Type 0) → IsErrAnd r (λ refusal. refusal ≡ of_bundle fault) → (fault ≡ bundle.NotBuilt → H) → IfErr r (λ refusal. refusal ≡ refused.NotBuilt → H)
+bundle_refused (Ok x) fault H is none = tt
+bundle_refused (Err e) fault H is none = λ not_built. none (told fault (sym is ∙ not_built))
+  where
+    told : (fault : BundleFault) → of_bundle fault ≡ refused.NotBuilt → fault ≡ bundle.NotBuilt
+    told bundle.NotBuilt same = refl
+    told bundle.NoMemory same = absurd (cc)
+
+-- What was served and written is a run.
+pub is_run : (left old new : Option (List ℕ)) (Rest : List ℕ → Type 0) (read text : List ℕ) (report : Report) (ending : Status) → IfSome left (λ bytes. (read ≡ bytes) × Rest bytes) →
+    (rules : RuleSet) → IsServed read rules report → text ≡ report_text rules report → Writes ending text old new → IsRun ending report left old new
+is_run left old new Rest read text report ending whole rules serves same writes = record {
+    bytes = read;
+    rules = rules;
+    all_that_was_left = told left whole;
+    is_served = serves;
+    is_written = subst (λ (t : List ℕ). Writes ending t old new) same writes;
+  }
+  where
+    told : (left : Option (List ℕ)) → IfSome left (λ bytes. (read ≡ bytes) × Rest bytes) → IfSome left (λ told. told ≡ read)
+    told None whole = tt
+    told (Some bytes) whole = sym whole.0

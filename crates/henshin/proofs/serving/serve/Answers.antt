@@ -5,7 +5,7 @@ use Rattle.hs_types.specs.Journal.{meta_of}
 use Rattle.hs_json.specs.BundleForm.{contents}
 use Rattle.hs_check.specs.declared.fault.RuleFault.TheVariants as rule
 use Rattle.henshin.specs.Bundle.{HasNoBundle}
-use Rattle.henshin.proofs.Served.{call_read, metamodel_read, no_args_read, no_call, no_request, no_rule, opening_read, refuted, rule_refused, runnable_read, served}
+use Rattle.henshin.proofs.Served.{bundle_refused, call_read, metamodel_read, no_args_read, no_call, no_request, no_rule, opening_read, refuted, rule_refused, runnable_read, served}
 use Rattle.henshin.proofs.serving.serve.Goals as goal
 
 pub run_serial-requires-clause-model : goal.run_serial-requires-clause-model
@@ -35,3 +35,6 @@ returns-then-not-calls-clause-not_built c = λ e. no_call c.args.bytes.now (cont
 pub returns-clause-served : goal.returns-clause-served
 returns-clause-served c = served c.args.bytes.now (contents c.in_ok-graph.field-0) c.in_ok-rule.rule c.in-Some.request.now c.in_ok-rules.rules c.in_ok-report.report c.in_ok-graph.ensures.bundle (rw (← c.deref.ensures, ← c.as_str.ensures) c.in_ok-rule.ensures.rule) c.in-Some.ensures.one
     (c.calls.ensures.0 c.if-not-calls.false) (record { same_model = c.in_ok-rules.ensures.meta; one_rule = c.in_ok-rules.ensures.rules; no_units = c.in_ok-rules.ensures.units }) c.in_ok-report.ensures
+
+pub returns-in_err-graph-clause-not_built : goal.returns-in_err-graph-clause-not_built
+returns-in_err-graph-clause-not_built c = bundle_refused c.from_residual.result c.in_err-graph.field-0.0 (HasNoBundle c.args.bytes.now) c.from_residual.ensures.1 (λ e held rule is. c.in_err-graph.ensures.not_built e held is.spelled)
