@@ -1,10 +1,9 @@
 -- What follows of a bundle that was read, for its run.
-use Rattle.std.proofs.Common.{ℕ, ◌+◌, ◌≤◌, ◌≡◌, List, [], ◌∷◌, length, Some, refl, ap, sym, ◌∙◌, subst, arith, Bool, true, false, ◌↔◌}
+use Rattle.std.proofs.Common.{ℕ, ◌≤◌, ◌≡◌, List, [], ◌∷◌, length, Some, refl, ap, sym, ◌∙◌, subst, arith, Bool, true, false, ◌↔◌}
 use Rattle.std.specs.Prelude.{Option, None, Result, Ok, Err, IfErr, IfSome}
 use Rattle.std.specs.Result.{IsErrAnd}
 use Rattle.std.specs.List.{All}
 use Rattle.std.proofs.lemmas.List.Elements.{All-head}
-use Rattle.hs_types.specs.declared.meta.Meta.{Meta}
 use Rattle.hs_types.specs.declared.request.Request.{Request}
 use Rattle.hs_types.specs.declared.rule.PatternEdge.{PatternEdge}
 use Rattle.hs_types.specs.declared.rule.PatternNode.{PatternNode}
@@ -38,7 +37,7 @@ use Rattle.hs_session.specs.declared.report.Report.{Report}
 use Rattle.hs_session.specs.SerialReport.{IsSerialReport}
 use Rattle.henshin.specs.declared.fault.Refusal.{Refusal}
 use Rattle.henshin.specs.declared.fault.Refusal.TheVariants as refused
-use Rattle.henshin.specs.Bundle.{HasNoBundle, IsBundle, IsServed, IsSetOf}
+use Rattle.henshin.specs.Bundle.{HasNoBundle, IsServed, IsSetOf}
 use Rattle.henshin.specs.Refusing.{of_bundle, of_rule}
 use Rattle.henshin.specs.declared.status.Status.{Status}
 use Rattle.henshin.specs.Ending.{IsRun, Writes}

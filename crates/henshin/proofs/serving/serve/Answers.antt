@@ -1,11 +1,8 @@
-use Rattle.std.proofs.Common.{rules, ◌≡◌, false, ap, sym, ◌∙◌, refl, Some, Err, IsSomeAnd, subst, List, [], ◌∷◌}
-use Rattle.hs_types.specs.declared.meta.Meta.{Meta}
-use Rattle.hs_types.specs.declared.request.Request.{Request}
-use Rattle.hs_types.specs.Journal.{meta_of}
+use Rattle.std.proofs.Common.{◌≡◌, ap, Err}
 use Rattle.hs_json.specs.BundleForm.{contents}
 use Rattle.hs_check.specs.declared.fault.RuleFault.TheVariants as rule
 use Rattle.henshin.specs.Bundle.{HasNoBundle}
-use Rattle.henshin.proofs.Served.{bundle_refused, call_read, metamodel_read, no_args_read, no_call, no_request, no_rule, opening_read, refuted, rule_refused, runnable_read, served}
+use Rattle.henshin.proofs.Served.{bundle_refused, metamodel_read, no_args_read, no_call, no_request, no_rule, opening_read, refuted, rule_refused, runnable_read, served}
 use Rattle.henshin.proofs.serving.serve.Goals as goal
 
 pub run_serial-requires-clause-model : goal.run_serial-requires-clause-model
