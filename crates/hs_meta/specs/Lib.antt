@@ -1,0 +1,3 @@
+pub mod Names
+pub mod Supertypes
+pub mod Faults
