@@ -91,13 +91,19 @@ own_names class = map (λ attribute. attribute.name) class.attributes ++ map (λ
 abbrev pub feature_names : List RawClass → ℕ → List (List ℕ)
 feature_names classes c = each (λ d class. if conforms (supers_of classes) c d then own_names class else []) classes
 
+abbrev pub repeated_features_at : List RawClass → ℕ → RawClass → List ModelFault
+repeated_features_at classes c class = fault_if (not (differ (feature_names classes c))) (Fault (place.Class c) kind.Twice)
+
 -- Ninth: a class has two features of one name, inherited ones included.
 abbrev pub repeated_features : List RawClass → List ModelFault
-repeated_features classes = each (λ c class. fault_if (not (differ (feature_names classes c))) (Fault (place.Class c) kind.Twice)) classes
+repeated_features classes = each (repeated_features_at classes) classes
+
+abbrev pub many_features_at : List RawClass → ℕ → RawClass → List ModelFault
+many_features_at classes c class = fault_if (nat_lt 64 (length (feature_names classes c))) (Fault (place.Class c) kind.Limit)
 
 -- Tenth: a class has more than 64 features, inherited ones included.
 abbrev pub many_features : List RawClass → List ModelFault
-many_features classes = each (λ c class. fault_if (nat_lt 64 (length (feature_names classes c))) (Fault (place.Class c) kind.Limit)) classes
+many_features classes = each (many_features_at classes) classes
 
 -- What the first four checks find.
 abbrev pub faults_of_names : List RawClass → List ModelFault
@@ -111,6 +117,10 @@ faults_of_features classes = unknown_types classes ++ (bad_defaults classes ++ b
 abbrev pub faults_of_inheritance : List RawClass → List ModelFault
 faults_of_inheritance classes = repeated_features classes ++ many_features classes
 
+-- What the fifth check and all later ones find.
+abbrev pub faults_from_supers : List RawClass → List ModelFault
+faults_from_supers classes = super_cycles classes ++ (faults_of_features classes ++ faults_of_inheritance classes)
+
 -- All faults, in their order.
 abbrev pub faults : List RawClass → List ModelFault
-faults classes = faults_of_names classes ++ (super_cycles classes ++ (faults_of_features classes ++ faults_of_inheritance classes))
+faults classes = faults_of_names classes ++ faults_from_supers classes

@@ -1,3 +1,4 @@
 pub mod Names
 pub mod Supertypes
 pub mod Faults
+pub mod Answers

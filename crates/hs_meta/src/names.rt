@@ -1,7 +1,8 @@
 //! Names as they are written, and what they stand for.
 
-ghost use Rattle.std.specs.Prelude.{◌≡◌};
-ghost use Rattle.std.specs.List.{list_all};
+ghost use Rattle.std.specs.Prelude.{◌≡◌, length};
+ghost use Rattle.std.specs.List.{list_all, list_any};
+ghost use Rattle.hs_types.specs.Lists.{same_text};
 ghost use Rattle.hs_meta.specs.Names as spec;
 
 use crate::raw::RawClass;
@@ -64,4 +65,24 @@ pub fn data_type_named(name: &Text) -> Option<DataType>
         "EString" => Some(DataType::EString),
         _ => None,
     }
+}
+
+/// Whether no text comes twice.
+pub fn differ(texts: &[Text]) -> bool
+    ensures { result ≡ spec.differ texts.now }
+{
+    let mut left = texts;
+    while let [first, rest @ ..] = left {
+        if is_among(rest, first) {
+            return false;
+        }
+        left = rest;
+    }
+    true
+}
+
+fn is_among(texts: &[Text], text: &Text) -> bool
+    ensures { result ≡ list_any (same_text text.now) texts.now }
+{
+    texts.iter().any(|other| *text == *other)
 }
