@@ -1,5 +1,5 @@
 -- Answers over faults that stand one behind the other.
-use Rattle.std.proofs.Common.{◌≡◌, List, [], ◌∷◌, ◌++◌, Result, Ok, Err, refl, sym, ◌∙◌}
+use Rattle.std.proofs.Common.{◌≡◌, List, ◌++◌, Result, Ok, Err, sym, ◌∙◌}
 use Rattle.hs_expr.specs.Verdict.{verdict}
 use Rattle.hs_expr.proofs.Verdicts.{verdict-append-ok, verdict-append-err}
 use Rattle.hs_meta.specs.Answers.{IsFirst, Tells}

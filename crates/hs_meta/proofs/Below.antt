@@ -4,7 +4,7 @@ use Rattle.std.proofs.lemmas.Bool.{false≢true}
 use Rattle.std.proofs.lemmas.List.FromFn.{get_or-map-range_with_len}
 use Rattle.std.specs.List.{list_any}
 use Rattle.hs_types.specs.Lists.{has}
-use Rattle.hs_meta.specs.Supertypes.{Extends, IsBelow, direct, by_way_of, below_within, in_rows, is_below, leads_to, rows}
+use Rattle.hs_meta.specs.Supertypes.{Extends, IsBelow, direct, by_way_of, below_within, is_below, leads_to}
 
 -- Marks that one more step leaves as they are stay so.
 stay : (supers : List (List ℕ)) (d s j : ℕ) → below_within supers d (suc s) ≡ below_within supers d s → below_within supers d (j + s) ≡ below_within supers d s
@@ -54,9 +54,9 @@ one_more : (supers : List (List ℕ)) (d s : ℕ) → Inside (below_within super
 one_more supers d zero = inside_map (λ numbers. false) (list_any (leads_to d (below_within supers d zero))) supers (λ numbers e. absurd (false≢true e))
 one_more supers d (suc s) =
     inside_map (list_any (leads_to d (below_within supers d s))) (list_any (leads_to d (below_within supers d (suc s)))) supers
-        (λ numbers. any_more (leads_to d (below_within supers d s)) (leads_to d (below_within supers d (suc s))) numbers
-            (λ n. either (eqb d n) (get_or (below_within supers d s) n false) (get_or (below_within supers d (suc s)) n false)
-                (inside_at (below_within supers d s) (below_within supers d (suc s)) n (one_more supers d s))))
+    (λ numbers. any_more (leads_to d (below_within supers d s)) (leads_to d (below_within supers d (suc s))) numbers
+    (λ n. either (eqb d n) (get_or (below_within supers d s) n false) (get_or (below_within supers d (suc s)) n false)
+    (inside_at (below_within supers d s) (below_within supers d (suc s)) n (one_more supers d s))))
 
 -- How many marks there are.
 abbrev marked : List Bool → ℕ
@@ -105,6 +105,7 @@ still supers d = go (still_or_many supers d (length supers)) (same_or_more (belo
     full : marked (below_within supers d (suc (length supers))) ≤ length supers
     full = let a = marked-length (below_within supers d (suc (length supers))) in
         let b = length-mapped (list_any (leads_to d (below_within supers d (length supers)))) supers in omega arith
+
     go : (below_within supers d (suc (length supers)) ≡ below_within supers d (length supers)) ⊎ (length supers ≤ marked (below_within supers d (length supers))) → (below_within supers d (length supers) ≡ below_within supers d (suc (length supers))) ⊎ (marked (below_within supers d (length supers)) < marked (below_within supers d (suc (length supers)))) → below_within supers d (suc (length supers)) ≡ below_within supers d (length supers)
     go (inl e) r = e
     go (inr m) (inl e) = sym e
@@ -191,6 +192,7 @@ row_at : (supers : List (List ℕ)) (c d : ℕ) → d < length supers → is_bel
 row_at supers c d h = ap (λ row. get_or row c false) (get_or-map-range_with_len (λ k. below_within supers k (length supers)) 0 (length supers) d d [] h (omega arith))
 
 pub says_below : (supers : List (List ℕ)) (c d : ℕ) → d < length supers → (is_below supers c d ≡ true) ↔ IsBelow supers c d
-says_below supers c d h =
-    ((λ e. marked_reached supers d (length supers) c (sym (row_at supers c d h) ∙ e)),
-     (λ below. row_at supers c d h ∙ reached_marked supers c d below))
+says_below supers c d h = (
+  (λ e. marked_reached supers d (length supers) c (sym (row_at supers c d h) ∙ e)),
+  (λ below. row_at supers c d h ∙ reached_marked supers c d below),
+)

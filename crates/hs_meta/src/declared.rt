@@ -55,7 +55,10 @@ fn few_classes(classes: &[RawClass]) -> Result<(), ModelFault>
 fn names_right(classes: &[RawClass]) -> Result<(), ModelFault>
     ensures { result ≡ verdict (spec.wrong_names classes.now) }
 {
-    check_each(classes, &|c: usize, class: &RawClass| names_right_in(c, class))
+    check_each(
+        classes,
+        &|c: usize, class: &RawClass| names_right_in(c, class),
+    )
 }
 
 #[tactic(auto, using(hs_expr::proofs::Verdicts::each_steps))]
@@ -149,7 +152,10 @@ fn supers_known(classes: &[RawClass]) -> Result<(), ModelFault>
 fn types_known(classes: &[RawClass]) -> Result<(), ModelFault>
     ensures { result ≡ verdict (spec.unknown_types classes.now) }
 {
-    check_each(classes, &|c: usize, class: &RawClass| types_known_in(classes, c, class))
+    check_each(
+        classes,
+        &|c: usize, class: &RawClass| types_known_in(classes, c, class),
+    )
 }
 
 #[tactic(auto, using(hs_expr::proofs::Verdicts::each_steps))]

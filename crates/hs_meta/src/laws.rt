@@ -6,5 +6,4 @@ ghost use Rattle.hs_meta.specs.Supertypes.{SaysBelow};
 /// supertypes, by one step or more.
 pub fn below_is_reached()
     ensures { SaysBelow }
-{
-}
+{}

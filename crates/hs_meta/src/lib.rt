@@ -16,6 +16,8 @@ mod laws;
 mod names;
 mod raw;
 mod supers;
+#[cfg(test)]
+mod tests;
 
 pub use fault::{ModelFault, ModelFaultKind, ModelPlace};
 pub use laws::below_is_reached;

@@ -1,5 +1,5 @@
-use Rattle.std.proofs.Common.{◌≡◌, ◌++◌, drop, map, [], if◌then◌else◌}
-use Rattle.hs_expr.specs.Verdict.{each, each_from}
+use Rattle.std.proofs.Common.{◌≡◌, ◌++◌, drop, [], if◌then◌else◌}
+use Rattle.hs_expr.specs.Verdict.{each_from}
 use Rattle.hs_meta.specs.Faults as spec
 use Rattle.hs_meta.specs.Supertypes.{conforms, supers_of}
 use Rattle.hs_meta.proofs.inherited.feature_names.Given as goal

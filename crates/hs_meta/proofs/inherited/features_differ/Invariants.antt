@@ -1,10 +1,6 @@
-use Rattle.std.proofs.Common.{◌≡◌, ◌<◌, drop, not, length, nat_lt}
-use Rattle.hs_expr.specs.Verdict.{verdict, each_from, fault_if}
-use Rattle.hs_meta.specs.declared.fault.ModelFault.TheVariants.{Fault}
-use Rattle.hs_meta.specs.declared.fault.ModelFaultKind.TheVariants as kind
-use Rattle.hs_meta.specs.declared.fault.ModelPlace.TheVariants as place
+use Rattle.std.proofs.Common.{◌≡◌, drop}
+use Rattle.hs_expr.specs.Verdict.{verdict, each_from}
 use Rattle.hs_meta.specs.Faults as spec
-use Rattle.hs_meta.specs.Names.{differ}
 use Rattle.hs_meta.proofs.inherited.features_differ.Given as goal
 
 abbrev pub invariant-loop-c : goal.invariant-loop-c

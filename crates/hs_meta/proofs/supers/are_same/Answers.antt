@@ -1,4 +1,4 @@
-use Rattle.std.proofs.Common.{◌≡◌, true, refl, rules}
+use Rattle.std.proofs.Common.{rules}
 use Rattle.hs_expr.specs.Equality.{lists_exact}
 use Rattle.hs_meta.proofs.supers.are_same.Goals as goal
 
