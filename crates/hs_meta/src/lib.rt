@@ -10,6 +10,7 @@ use hs_expr::List;
 use std::alloc::Global;
 
 mod declared;
+mod examples;
 mod fault;
 mod inherited;
 mod laws;
@@ -19,6 +20,7 @@ mod supers;
 #[cfg(test)]
 mod tests;
 
+pub use examples::{cycles, inheritance};
 pub use fault::{ModelFault, ModelFaultKind, ModelPlace};
 pub use laws::below_is_reached;
 pub use raw::{RawAttribute, RawClass, RawDefault, RawMeta, RawReference};
