@@ -2,9 +2,12 @@
 use Rattle.std.proofs.Common.{ℕ, zero, suc, ◌+◌, ◌-◌, ◌<◌, ◌≤◌, ◌≡◌, ◌⊎◌, inl, inr, ◌↔◌, ◌||◌, List, [], ◌∷◌, Bool, true, false, eqb, map, length, get_or, slice_get, IsSomeAnd, Option, Some, None, subst, refl, sym, ap, ◌∙◌, arith, rules}
 use Rattle.std.proofs.lemmas.Bool.{false≢true}
 use Rattle.std.proofs.lemmas.List.FromFn.{get_or-map-range_with_len}
-use Rattle.std.specs.List.{list_any}
+use Rattle.std.specs.List.{filter_map, list_any}
 use Rattle.hs_types.specs.Lists.{has}
-use Rattle.hs_meta.specs.Supertypes.{Extends, IsBelow, direct, by_way_of, below_within, is_below, leads_to}
+use Rattle.hs_meta.specs.declared.raw.RawClass.{RawClass}
+use Rattle.hs_meta.specs.Names.{class_named}
+use Rattle.hs_meta.specs.Rows.{rows}
+use Rattle.hs_meta.specs.Supertypes.{supers_of, Extends, IsBelow, direct, by_way_of, below_within, is_below, leads_to}
 
 -- Marks that one more step leaves as they are stay so.
 stay : (supers : List (List ℕ)) (d s j : ℕ) → below_within supers d (suc s) ≡ below_within supers d s → below_within supers d (j + s) ≡ below_within supers d s
@@ -188,11 +191,12 @@ marked_reached supers d (suc s) c e =
     go n is later true same e = direct c d (subst (λ k. Extends supers c k) (sym (same_number d n same)) is)
     go n is later false same e = by_way_of c n d is (later e)
 
-row_at : (supers : List (List ℕ)) (c d : ℕ) → d < length supers → is_below supers c d ≡ get_or (below_within supers d (length supers)) c false
+pub row_at : (supers : List (List ℕ)) (c d : ℕ) → d < length supers → get_or (get_or (rows supers) d []) c false ≡ is_below supers c d
 row_at supers c d h = ap (λ row. get_or row c false) (get_or-map-range_with_len (λ k. below_within supers k (length supers)) 0 (length supers) d d [] h (omega arith))
 
-pub says_below : (supers : List (List ℕ)) (c d : ℕ) → d < length supers → (is_below supers c d ≡ true) ↔ IsBelow supers c d
-says_below supers c d h = (
-  (λ e. marked_reached supers d (length supers) c (sym (row_at supers c d h) ∙ e)),
-  (λ below. row_at supers c d h ∙ reached_marked supers c d below),
-)
+-- There are as many lists of supertypes as classes.
+pub supers_each : (classes : List RawClass) → length (supers_of classes) ≡ length classes
+supers_each classes = length-mapped (λ class. filter_map (class_named classes) class.supers) classes
+
+pub says_below : (supers : List (List ℕ)) (c d : ℕ) → (is_below supers c d ≡ true) ↔ IsBelow supers c d
+says_below supers c d = (marked_reached supers d (length supers) c, reached_marked supers c d)

@@ -1,5 +1,5 @@
 -- The metamodel that written classes mean, where they have no fault.
-use Rattle.std.specs.Prelude.{ℕ, zero, suc, ◌+◌, ℤ, pos, negsuc, List, [], ◌∷◌, ◌++◌, map, length, take, false, get_or, slice_get, Option, Some, None}
+use Rattle.std.specs.Prelude.{ℕ, zero, suc, ◌+◌, ℤ, pos, negsuc, List, [], ◌∷◌, ◌++◌, map, length, take, false, slice_get, Option, Some, None}
 use Rattle.std.specs.List.{flat_map, filter_map, range_with_len, sum_by}
 use Rattle.std.specs.Option.{option_map, unwrap_or}
 use Rattle.hs_expr.specs.declared.value.Value.{Value}

@@ -1,5 +1,5 @@
 -- Small written metamodels, on which the definitions are tried.
-use Rattle.std.specs.Prelude.{ℕ, ℤ, pos, negsuc, List, [], ◌∷◌, false, codes}
+use Rattle.std.specs.Prelude.{ℕ, pos, negsuc, List, [], ◌∷◌, false, codes}
 use Rattle.hs_meta.specs.declared.raw.RawAttribute.{RawAttribute}
 use Rattle.hs_meta.specs.declared.raw.RawClass.{RawClass}
 use Rattle.hs_meta.specs.declared.raw.RawDefault.TheVariants.{LeftOut}

@@ -1,6 +1,6 @@
 -- Supertypes of written classes, by one step and by many.
-use Rattle.std.specs.Prelude.{ℕ, zero, suc, ◌<◌, ◌≡◌, ◌↔◌, List, [], map, length, Bool, true, false, eqb, ◌||◌, get_or, IsSomeAnd, slice_get}
-use Rattle.std.specs.List.{list_any, filter_map, range_with_len}
+use Rattle.std.specs.Prelude.{ℕ, zero, suc, ◌≡◌, ◌↔◌, List, map, length, Bool, true, false, eqb, ◌||◌, get_or, IsSomeAnd, slice_get}
+use Rattle.std.specs.List.{list_any, filter_map}
 use Rattle.hs_types.specs.Lists.{has}
 use Rattle.hs_meta.specs.declared.raw.RawClass.{RawClass}
 use Rattle.hs_meta.specs.Names.{class_named}
@@ -27,26 +27,14 @@ abbrev pub below_within : List (List ℕ) → ℕ → ℕ → List Bool
 below_within supers d zero = map (λ numbers. false) supers
 below_within supers d (suc steps) = map (list_any (leads_to d (below_within supers d steps))) supers
 
--- The same by any number of steps, for each class d. No path needs more steps than there are classes.
-abbrev pub rows : List (List ℕ) → List (List Bool)
-rows supers = map (λ d. below_within supers d (length supers)) (range_with_len 0 (length supers))
-
--- What row d says of class c.
-abbrev pub in_rows : List (List Bool) → ℕ → ℕ → Bool
-in_rows rows c d = get_or (get_or rows d []) c false
-
--- Class c is below class d.
+-- Class c is below class d. No path needs more steps than there are classes.
 abbrev pub is_below : List (List ℕ) → ℕ → ℕ → Bool
-is_below supers c d = in_rows (rows supers) c d
-
--- Class c is class d, or row d says that it is below.
-abbrev pub conforms_in : List (List Bool) → ℕ → ℕ → Bool
-conforms_in rows c d = eqb c d || in_rows rows c d
+is_below supers c d = get_or (below_within supers d (length supers)) c false
 
 -- Class c is class d, or is below it.
 abbrev pub conforms : List (List ℕ) → ℕ → ℕ → Bool
-conforms supers c d = conforms_in (rows supers) c d
+conforms supers c d = eqb c d || is_below supers c d
 
--- For classes, the test says exactly that the one is a supertype of the other.
+-- The test says exactly that the one class is a supertype of the other.
 abbrev pub SaysBelow : Type 0
-SaysBelow = (supers : List (List ℕ)) (c d : ℕ) → d < length supers → (is_below supers c d ≡ true) ↔ IsBelow supers c d
+SaysBelow = (supers : List (List ℕ)) (c d : ℕ) → (is_below supers c d ≡ true) ↔ IsBelow supers c d

@@ -1,9 +1,10 @@
 //! Faults of what classes inherit.
 
-ghost use Rattle.std.specs.Prelude.{◌≡◌, ◌++◌, ℕ, List, [], map, length, IfOk, OnOk, if◌then◌else◌};
+ghost use Rattle.std.specs.Prelude.{◌≡◌, ◌<◌, ◌++◌, [], map, length, IfOk, OnOk, if◌then◌else◌};
 ghost use Rattle.hs_expr.specs.Verdict.{verdict, each};
 ghost use Rattle.hs_meta.specs.Answers.{Tells};
 ghost use Rattle.hs_meta.specs.Faults as spec;
+ghost use Rattle.hs_meta.specs.Rows.{rows as rows_for};
 ghost use Rattle.hs_meta.specs.Supertypes as supertypes;
 
 use crate::fault::{ModelFault, ModelFaultKind, ModelPlace};
@@ -17,8 +18,9 @@ use std::alloc::{AllocError, Global};
 const MOST_FEATURES: usize = 64;
 
 /// The first class that is below itself, by the rows.
+#[tactic(auto, using(crate::proofs::Below::supers_each))]
 pub fn no_cycle(classes: &[RawClass], rows: &[List<bool>]) -> Result<(), ModelFault>
-    requires { rows.now ≡ supertypes.rows (supertypes.supers_of classes.now) }
+    requires { rows.now ≡ rows_for (supertypes.supers_of classes.now) }
     ensures { result ≡ verdict (spec.super_cycles classes.now) }
 {
     check_each(
@@ -42,7 +44,7 @@ pub fn features_differ(
     classes: &[RawClass],
     rows: &[List<bool>],
 ) -> Result<(), ModelFault>
-    requires { rows.now ≡ supertypes.rows (supertypes.supers_of classes.now) }
+    requires { rows.now ≡ rows_for (supertypes.supers_of classes.now) }
     ensures { Tells result (spec.repeated_features classes.now) }
 {
     for (c, _) in classes.iter().enumerate() {
@@ -64,7 +66,7 @@ pub fn features_few(
     classes: &[RawClass],
     rows: &[List<bool>],
 ) -> Result<(), ModelFault>
-    requires { rows.now ≡ supertypes.rows (supertypes.supers_of classes.now) }
+    requires { rows.now ≡ rows_for (supertypes.supers_of classes.now) }
     ensures { Tells result (spec.many_features classes.now) }
 {
     for (c, _) in classes.iter().enumerate() {
@@ -80,13 +82,14 @@ pub fn features_few(
 }
 
 /// The names of all features of class `c`.
+#[tactic(auto, using(crate::proofs::Below::supers_each))]
 fn feature_names(
     alloc: Global,
     classes: &[RawClass],
     rows: &[List<bool>],
     c: usize,
 ) -> Result<List<Text>, AllocError>
-    requires { rows.now ≡ supertypes.rows (supertypes.supers_of classes.now) }
+    requires { rows.now ≡ rows_for (supertypes.supers_of classes.now) }
     ensures { IfOk result (λ names. names ≡ spec.feature_names classes.now c) }
 {
     let mut names = List::new(alloc);
@@ -99,7 +102,7 @@ fn feature_names(
 }
 
 fn conforms(rows: &[List<bool>], c: usize, d: usize) -> bool
-    ensures { result ≡ supertypes.conforms_in rows.now c d }
+    ensures { (supers : _) → rows.now ≡ rows_for supers → d < length supers → result ≡ supertypes.conforms supers c d }
 {
     c == d || is_below(rows, c, d)
 }

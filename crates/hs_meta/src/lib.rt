@@ -4,6 +4,7 @@
 ghost use Rattle.std.specs.Prelude.{◌≡◌};
 ghost use Rattle.hs_meta.specs.Answers.{Tells};
 ghost use Rattle.hs_meta.specs.Faults as spec;
+ghost use Rattle.hs_meta.specs.Rows.{rows as rows_for};
 ghost use Rattle.hs_meta.specs.Supertypes as supertypes;
 
 use hs_expr::List;
@@ -40,7 +41,7 @@ pub fn check(alloc: Global, raw: &RawMeta) -> Result<(), ModelFault>
 /// The first fault from the fifth check on.
 #[tactic(auto, using(crate::proofs::Answers::steps))]
 fn check_supers(alloc: Global, classes: &[RawClass], rows: &[List<bool>]) -> Result<(), ModelFault>
-    requires { rows.now ≡ supertypes.rows (supertypes.supers_of classes.now) }
+    requires { rows.now ≡ rows_for (supertypes.supers_of classes.now) }
     ensures { Tells result (spec.faults_from_supers classes.now) }
 {
     inherited::no_cycle(classes, rows)?;
@@ -55,7 +56,7 @@ fn check_inherited(
     classes: &[RawClass],
     rows: &[List<bool>],
 ) -> Result<(), ModelFault>
-    requires { rows.now ≡ supertypes.rows (supertypes.supers_of classes.now) }
+    requires { rows.now ≡ rows_for (supertypes.supers_of classes.now) }
     ensures { Tells result (spec.faults_of_inheritance classes.now) }
 {
     inherited::features_differ(alloc, classes, rows)?;

@@ -1,8 +1,9 @@
 //! Supertypes of written classes, by one step and by many.
 
-ghost use Rattle.std.specs.Prelude.{◌≡◌, ◌↔◌, IsTrue, ℕ, List, map, length, false, eqb, get_or, IfOk};
+ghost use Rattle.std.specs.Prelude.{◌≡◌, ◌<◌, ◌↔◌, IsTrue, [], map, length, false, eqb, get_or, IfOk};
 ghost use Rattle.std.specs.List.{list_any, filter_map, range_with_len};
 ghost use Rattle.hs_meta.specs.Names as by_name;
+ghost use Rattle.hs_meta.specs.Rows.{rows as rows_for};
 ghost use Rattle.hs_meta.specs.Supertypes as spec;
 
 use crate::names::class_named;
@@ -41,7 +42,7 @@ fn numbers_of(
 
 /// The rows of the classes' supertypes.
 pub fn rows_of(alloc: Global, classes: &[RawClass]) -> Result<List<List<bool>>, AllocError>
-    ensures { IfOk result (λ rows. rows ≡ spec.rows (spec.supers_of classes.now)) }
+    ensures { IfOk result (λ made. made ≡ rows_for (spec.supers_of classes.now)) }
 {
     let supers = supers_of(alloc, classes)?;
     below_each(alloc, supers.as_slice())
@@ -50,7 +51,7 @@ pub fn rows_of(alloc: Global, classes: &[RawClass]) -> Result<List<List<bool>>, 
 /// For each class a row that says of every class whether it is below that one.
 #[tactic(auto, using(crate::proofs::Rows::one_row_more))]
 fn below_each(alloc: Global, supers: &[List<usize>]) -> Result<List<List<bool>>, AllocError>
-    ensures { IfOk result (λ rows. rows ≡ spec.rows supers.now) }
+    ensures { IfOk result (λ made. made ≡ rows_for supers.now) }
 {
     let mut rows = List::new(alloc);
     for d in 0..supers.len() {
@@ -128,9 +129,16 @@ fn is_marked(marks: &[bool], s: usize) -> bool
     }
 }
 
-/// Whether class `c` is below class `d`, by the rows.
+/// Whether class `c` is below class `d`, by the rows of their supertypes.
+#[tactic(auto, using(crate::proofs::Below::row_at))]
 pub fn is_below(rows: &[List<bool>], c: usize, d: usize) -> bool
-    ensures { result ≡ spec.in_rows rows.now c d }
+    ensures { (supers : _) → rows.now ≡ rows_for supers → d < length supers → result ≡ spec.is_below supers c d }
+{
+    is_in_row(rows, c, d)
+}
+
+fn is_in_row(rows: &[List<bool>], c: usize, d: usize) -> bool
+    ensures { result ≡ get_or (get_or rows.now d []) c false }
 {
     match rows.get(d) {
         Some(marks) => is_marked(marks.as_slice(), c),
