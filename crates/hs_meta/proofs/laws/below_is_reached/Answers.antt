@@ -1,0 +1,5 @@
+use Rattle.hs_meta.proofs.Below.{says_below}
+use Rattle.hs_meta.proofs.laws.below_is_reached.Goals as goal
+
+pub returns : goal.returns
+returns c = says_below

@@ -1,0 +1,7 @@
+pub mod Names
+pub mod Supertypes
+pub mod Faults
+pub mod Answers
+pub mod Meaning
+pub mod Samples
+pub mod Rows

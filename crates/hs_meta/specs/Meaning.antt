@@ -1,0 +1,82 @@
+-- The metamodel that written classes mean, where they have no fault.
+use Rattle.std.specs.Prelude.{ℕ, zero, suc, ◌+◌, ℤ, pos, negsuc, List, [], ◌∷◌, ◌++◌, map, length, take, false, slice_get, Option, Some, None}
+use Rattle.std.specs.List.{flat_map, filter_map, range_with_len, sum_by}
+use Rattle.std.specs.Option.{option_map, unwrap_or}
+use Rattle.hs_expr.specs.declared.value.Value.{Value}
+use Rattle.hs_expr.specs.declared.value.Value.TheVariants as value
+use Rattle.hs_expr.specs.Verdict.{each}
+use Rattle.hs_types.specs.declared.meta.Class.{Class}
+use Rattle.hs_types.specs.declared.meta.DataType.{DataType}
+use Rattle.hs_types.specs.declared.meta.DataType.TheVariants.{EInt, ELong, EBoolean, EString}
+use Rattle.hs_types.specs.declared.meta.Feature.{Feature}
+use Rattle.hs_types.specs.declared.meta.FeatureKind.TheVariants.{Attribute, Reference}
+use Rattle.hs_types.specs.declared.meta.Meta.{Meta}
+use Rattle.hs_types.specs.Lists.{each_once}
+use Rattle.hs_meta.specs.declared.raw.RawAttribute.{RawAttribute}
+use Rattle.hs_meta.specs.declared.raw.RawClass.{RawClass}
+use Rattle.hs_meta.specs.declared.raw.RawDefault.{RawDefault}
+use Rattle.hs_meta.specs.declared.raw.RawDefault.TheVariants.{LeftOut, Given, NoValue}
+use Rattle.hs_meta.specs.declared.raw.RawMeta.{RawMeta}
+use Rattle.hs_meta.specs.declared.raw.RawReference.{RawReference}
+use Rattle.hs_meta.specs.Names.{class_named, data_type_named}
+
+-- What an attribute of this type has where nothing is given.
+abbrev pub plain_value : DataType → Value
+plain_value EInt = value.Int (pos 0)
+plain_value ELong = value.Int (pos 0)
+plain_value EBoolean = value.Bool false
+plain_value EString = value.Text []
+
+abbrev pub default_value : DataType → RawDefault → Value
+default_value data_type (Given value) = value
+default_value data_type LeftOut = plain_value data_type
+default_value data_type NoValue = plain_value data_type
+
+abbrev pub least : ℤ → ℕ
+least (pos n) = n
+least (negsuc n) = 0
+
+-- A bound below zero is none.
+abbrev pub most : ℤ → Option ℕ
+most (pos n) = Some n
+most (negsuc n) = None
+
+abbrev pub data_type_of : RawAttribute → DataType
+data_type_of attribute = unwrap_or (data_type_named attribute.data_type) EString
+
+abbrev pub attribute_of : ℕ → RawAttribute → Feature
+attribute_of owner attribute = record { owner = owner; name = attribute.name; kind = Attribute (data_type_of attribute) (default_value (data_type_of attribute) attribute.default) }
+
+abbrev pub reference_of : List RawClass → ℕ → RawReference → Feature
+reference_of classes owner reference = record { owner = owner; name = reference.name; kind = Reference (unwrap_or (class_named classes reference.target) 0) reference.containment (least reference.lower) (most reference.upper) }
+
+-- The features that a class owns, its attributes before its references.
+abbrev pub own_features : List RawClass → ℕ → RawClass → List Feature
+own_features classes c class = map (attribute_of c) class.attributes ++ map (reference_of classes c) class.references
+
+-- How many features a class owns.
+abbrev pub own_count : RawClass → ℕ
+own_count class = length class.attributes + length class.references
+
+-- The numbers of the features that class c owns: features are numbered class by class.
+abbrev pub own_numbers : List RawClass → ℕ → List ℕ
+own_numbers classes c = unwrap_or (option_map (λ class. range_with_len (sum_by own_count (take c classes)) (own_count class)) (slice_get classes c)) []
+
+-- The numbers of a class's direct supertypes.
+abbrev pub direct_supers : List RawClass → RawClass → List ℕ
+direct_supers classes class = filter_map (class_named classes) class.supers
+
+abbrev pub supers_at : List RawClass → ℕ → List ℕ
+supers_at classes c = unwrap_or (option_map (direct_supers classes) (slice_get classes c)) []
+
+-- The features of class c: the inherited ones, supertype by supertype, each once, and then its own. Supertypes are followed for at most so many steps.
+abbrev pub features_within : List RawClass → ℕ → ℕ → List ℕ
+features_within classes zero c = own_numbers classes c
+features_within classes (suc steps) c = each_once (flat_map (features_within classes steps) (supers_at classes c)) ++ own_numbers classes c
+
+abbrev pub class_of : List RawClass → ℕ → RawClass → Class
+class_of classes c class = record { name = class.name; is_abstract = class.is_abstract; supers = direct_supers classes class; features = features_within classes (length classes) c }
+
+-- Classes and features are numbered in written order. No chain of supertypes is longer than there are classes.
+abbrev pub meant : RawMeta → Meta
+meant raw = record { format = raw.format; classes = each (λ c class. class_of raw.classes c class ∷ []) raw.classes; features = each (own_features raw.classes) raw.classes }

@@ -1,0 +1,139 @@
+//! Faults of what classes inherit.
+
+ghost use Rattle.std.specs.Prelude.{◌≡◌, ◌<◌, ◌++◌, [], map, length, IfOk, OnOk, if◌then◌else◌};
+ghost use Rattle.hs_expr.specs.Verdict.{verdict, each};
+ghost use Rattle.hs_meta.specs.Answers.{Tells};
+ghost use Rattle.hs_meta.specs.Faults as spec;
+ghost use Rattle.hs_meta.specs.Rows.{rows as rows_for};
+ghost use Rattle.hs_meta.specs.Supertypes as supertypes;
+
+use crate::fault::{ModelFault, ModelFaultKind, ModelPlace};
+use crate::names::differ;
+use crate::raw::{RawAttribute, RawClass, RawReference};
+use crate::supers::is_below;
+use hs_expr::{List, Text, check_each, fault_if};
+use std::alloc::{AllocError, Global};
+
+/// The most features of a class.
+const MOST_FEATURES: usize = 64;
+
+/// The first class that is below itself, by the rows.
+#[tactic(auto, using(crate::proofs::Below::supers_each))]
+pub fn no_cycle(classes: &[RawClass], rows: &[List<bool>]) -> Result<(), ModelFault>
+    requires { rows.now ≡ rows_for (supertypes.supers_of classes.now) }
+    ensures { result ≡ verdict (spec.super_cycles classes.now) }
+{
+    check_each(
+        classes,
+        &|c: usize, class: &RawClass| {
+            fault_if(
+                is_below(rows, c, c),
+                ModelFault::Fault {
+                    place: ModelPlace::Class { class: c },
+                    kind: ModelFaultKind::SuperCycle,
+                },
+            )
+        },
+    )
+}
+
+/// The first class that has two features of one name.
+#[tactic(auto, using(hs_expr::proofs::Verdicts::each_steps))]
+pub fn features_differ(
+    alloc: Global,
+    classes: &[RawClass],
+    rows: &[List<bool>],
+) -> Result<(), ModelFault>
+    requires { rows.now ≡ rows_for (supertypes.supers_of classes.now) }
+    ensures { Tells result (spec.repeated_features classes.now) }
+{
+    for (c, _) in classes.iter().enumerate() {
+        let names = feature_names(alloc, classes, rows, c)?;
+        if !differ(names.as_slice()) {
+            return Err(ModelFault::Fault {
+                place: ModelPlace::Class { class: c },
+                kind: ModelFaultKind::Twice,
+            });
+        }
+    }
+    Ok(())
+}
+
+/// The first class that has too many features.
+#[tactic(auto, using(hs_expr::proofs::Verdicts::each_steps))]
+pub fn features_few(
+    alloc: Global,
+    classes: &[RawClass],
+    rows: &[List<bool>],
+) -> Result<(), ModelFault>
+    requires { rows.now ≡ rows_for (supertypes.supers_of classes.now) }
+    ensures { Tells result (spec.many_features classes.now) }
+{
+    for (c, _) in classes.iter().enumerate() {
+        let names = feature_names(alloc, classes, rows, c)?;
+        if names.len() > MOST_FEATURES {
+            return Err(ModelFault::Fault {
+                place: ModelPlace::Class { class: c },
+                kind: ModelFaultKind::Limit,
+            });
+        }
+    }
+    Ok(())
+}
+
+/// The names of all features of class `c`.
+#[tactic(auto, using(crate::proofs::Below::supers_each))]
+fn feature_names(
+    alloc: Global,
+    classes: &[RawClass],
+    rows: &[List<bool>],
+    c: usize,
+) -> Result<List<Text>, AllocError>
+    requires { rows.now ≡ rows_for (supertypes.supers_of classes.now) }
+    ensures { IfOk result (λ names. names ≡ spec.feature_names classes.now c) }
+{
+    let mut names = List::new(alloc);
+    for (d, class) in classes.iter().enumerate() {
+        if conforms(rows, c, d) {
+            add_own_names(class, &mut names)?;
+        }
+    }
+    Ok(names)
+}
+
+fn conforms(rows: &[List<bool>], c: usize, d: usize) -> bool
+    ensures { (supers : _) → rows.now ≡ rows_for supers → d < length supers → result ≡ supertypes.conforms supers c d }
+{
+    c == d || is_below(rows, c, d)
+}
+
+fn add_own_names(class: &RawClass, names: &mut List<Text>) -> Result<(), AllocError>
+    ensures { OnOk result (names.new ≡ names.old ++ spec.own_names class.now) }
+{
+    add_attribute_names(class.attributes.as_slice(), names)?;
+    add_reference_names(class.references.as_slice(), names)
+}
+
+fn add_attribute_names(
+    attributes: &[RawAttribute],
+    names: &mut List<Text>,
+) -> Result<(), AllocError>
+    ensures { OnOk result (names.new ≡ names.old ++ map (λ attribute. attribute.name) attributes.now) }
+{
+    for attribute in attributes {
+        names.push(attribute.name.clone()?)?;
+    }
+    Ok(())
+}
+
+fn add_reference_names(
+    references: &[RawReference],
+    names: &mut List<Text>,
+) -> Result<(), AllocError>
+    ensures { OnOk result (names.new ≡ names.old ++ map (λ reference. reference.name) references.now) }
+{
+    for reference in references {
+        names.push(reference.name.clone()?)?;
+    }
+    Ok(())
+}

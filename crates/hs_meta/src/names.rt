@@ -1,0 +1,88 @@
+//! Names as they are written, and what they stand for.
+
+ghost use Rattle.std.specs.Prelude.{◌≡◌, length};
+ghost use Rattle.std.specs.List.{list_all, list_any};
+ghost use Rattle.hs_types.specs.Lists.{same_text};
+ghost use Rattle.hs_meta.specs.Names as spec;
+
+use crate::raw::RawClass;
+use hs_expr::Text;
+use hs_types::DataType;
+
+/// The most bytes of a name.
+const MOST_BYTES: usize = 64;
+
+/// Whether a text can name a class, an attribute or a reference.
+pub fn is_identifier(name: &Text) -> bool
+    ensures { result ≡ spec.is_identifier name.now }
+{
+    match name.as_str().as_bytes() {
+        [first, rest @ ..] => begins_name(*first) && all_go_on(rest) && rest.len() < MOST_BYTES,
+        [] => false,
+    }
+}
+
+fn all_go_on(bytes: &[u8]) -> bool
+    ensures { result ≡ list_all spec.goes_on_in_name bytes.now }
+{
+    bytes.iter().all(|byte| goes_on_in_name(*byte))
+}
+
+fn begins_name(byte: u8) -> bool
+    ensures { result ≡ spec.begins_name byte }
+{
+    matches!(byte, b'A'..=b'Z' | b'a'..=b'z' | b'_')
+}
+
+fn goes_on_in_name(byte: u8) -> bool
+    ensures { result ≡ spec.goes_on_in_name byte }
+{
+    begins_name(byte) || matches!(byte, b'0'..=b'9')
+}
+
+/// Whether one of the classes has this name.
+pub fn is_class(classes: &[RawClass], name: &Text) -> bool
+    ensures { result ≡ spec.is_class classes.now name.now }
+{
+    classes.iter().any(|class| class.name == *name)
+}
+
+/// The number of the first class that has this name.
+pub fn class_named(classes: &[RawClass], name: &Text) -> Option<usize>
+    ensures { result ≡ spec.class_named classes.now name.now }
+{
+    classes.iter().position(|class| class.name == *name)
+}
+
+/// The data type of this name.
+pub fn data_type_named(name: &Text) -> Option<DataType>
+    ensures { result ≡ spec.data_type_named name.now }
+{
+    match name.as_str() {
+        "EInt" => Some(DataType::EInt),
+        "ELong" => Some(DataType::ELong),
+        "EBoolean" => Some(DataType::EBoolean),
+        "EString" => Some(DataType::EString),
+        _ => None,
+    }
+}
+
+/// Whether no text comes twice.
+pub fn differ(texts: &[Text]) -> bool
+    ensures { result ≡ spec.differ texts.now }
+{
+    let mut left = texts;
+    while let [first, rest @ ..] = left {
+        if is_among(rest, first) {
+            return false;
+        }
+        left = rest;
+    }
+    true
+}
+
+fn is_among(texts: &[Text], text: &Text) -> bool
+    ensures { result ≡ list_any (same_text text.now) texts.now }
+{
+    texts.iter().any(|other| *text == *other)
+}
