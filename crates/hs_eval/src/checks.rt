@@ -58,7 +58,7 @@ fn run<C: Scope>(
 /// The expression with its names resolved to numbers, and its kind; or its first fault: those of
 /// operands come first, operand by operand from the left, then the sign's or the word's own. A
 /// fault's place is that of the name, the sign or the word that it is told at. It goes through the
-/// pieces once, and takes no depth of calls, however deep the expression is.
+/// pieces once, with a stack of its own. Dropping what was checked takes a call for each level.
 pub fn check<C: Scope>(
     alloc: Global,
     names: &NameExpr,
