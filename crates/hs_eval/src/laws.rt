@@ -1,0 +1,21 @@
+ghost use Rattle.std.specs.Prelude.{◌≡◌, Ok, Some};
+ghost use Rattle.hs_expr.specs.declared.expr.Expr.{Expr};
+ghost use Rattle.hs_expr.specs.declared.value.Kind.{Kind};
+ghost use Rattle.hs_expr.specs.Evaluation as evaluation;
+ghost use Rattle.hs_expr.specs.Evaluation.{kind_in, value_of};
+ghost use Rattle.hs_text.specs.Trees.{Tree};
+ghost use Rattle.hs_eval.specs.Checking.{Names, checked};
+ghost use Rattle.hs_eval.specs.Naming.{Agrees, value_by_names};
+
+/// A checked expression is worth what the expression by names is, wherever it is read.
+pub fn checked_is_worth_the_same()
+    ensures { (names : Names) (env : evaluation.Env) (tree : Tree) (r : Expr × Kind) → checked names tree ≡ Ok r
+        → value_of env r.0 ≡ value_by_names names env tree }
+{}
+
+/// A checked expression has the kind that it is said to have, where the numbers have the kinds that
+/// the names are said to have.
+pub fn checked_has_its_kind()
+    ensures { (names : Names) (scope : evaluation.Scope) → Agrees names scope → (tree : Tree) (r : Expr × Kind) → checked names tree ≡ Ok r
+        → kind_in scope r.0 ≡ Some r.1 }
+{}

@@ -1,0 +1,24 @@
+ghost use Rattle.std.specs.Prelude.{◌≡◌};
+ghost use Rattle.hs_eval.specs.Checking as checking;
+
+use hs_expr::Kind;
+
+/// What the names of an expression stand for.
+pub trait Scope {
+    ghost use Rattle.hs_eval.specs.Checking as checking;
+
+    /// What each name stands for.
+    ghost names: { Self → checking.Names };
+
+    /// The number and the kind of the data parameter of this name.
+    fn param(&self, name: &str) -> Option<(u16, Kind)>
+        ensures { result ≡ checking.Names.param (names self.now) name.now };
+
+    /// The number of the node of this name, and whether it is on the left side.
+    fn node(&self, name: &str) -> Option<(u16, bool)>
+        ensures { result ≡ checking.Names.node (names self.now) name.now };
+
+    /// The number and the kind of the attribute of this name, of the node of this number.
+    fn attribute(&self, node: u16, name: &str) -> Option<(u16, Kind)>
+        ensures { result ≡ checking.Names.attribute (names self.now) node name.now };
+}
