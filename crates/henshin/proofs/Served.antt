@@ -142,12 +142,12 @@ bundle_refused (Err e) fault H is none = λ not_built. none (told fault (sym is 
 pub is_run : (left old new : Option (List ℕ)) (Rest : List ℕ → Type 0) (read text : List ℕ) (report : Report) (ending : Status) → IfSome left (λ bytes. (read ≡ bytes) × Rest bytes) →
     (rules : RuleSet) → IsServed read rules report → text ≡ report_text rules report → Writes ending text old new → IsRun ending report left old new
 is_run left old new Rest read text report ending whole rules serves same writes = record {
-    bytes = read;
-    rules = rules;
-    all_that_was_left = told left whole;
-    is_served = serves;
-    is_written = subst (λ (t : List ℕ). Writes ending t old new) same writes;
-  }
+  bytes = read;
+  rules = rules;
+  all_that_was_left = told left whole;
+  is_served = serves;
+  is_written = subst (λ (t : List ℕ). Writes ending t old new) same writes;
+}
   where
     told : (left : Option (List ℕ)) → IfSome left (λ bytes. (read ≡ bytes) × Rest bytes) → IfSome left (λ told. told ≡ read)
     told None whole = tt

@@ -8,8 +8,8 @@ ghost use Rattle.std.specs.List.{enumerate_from};
 ghost use Rattle.henshin.specs.ReportText.{with_members, object_data, list_data, number_data, value_data, arg_data, args_data, rule_name, class_name, feature_name, attrs_data, extension_data, gone_data, match_members, change_members, outcome_members, tried_members, what_members, entry_data, word_text, outs_data, reply_data, graph_data, line_of, lines_of, report_text};
 
 use crate::graph_line::graph_value;
-use hs_session::{Out, Reply, Report, Word};
 use hs_expr::{List, Text, Value as Datum};
+use hs_session::{Out, Reply, Report, Word};
 use hs_types::{
     Arg, Args, Entry, ExtensionNames, FeatureNo, Gone, Graph, MatchNames, Meta, NamedArg, Outcome,
     RuleSet, Slot, Tried, What,

@@ -8,12 +8,12 @@ ghost use Rattle.hs_base.specs.Faults.{one_more};
 use crate::fault::Refusal;
 use crate::lines::report_text;
 use crate::reading::{ReadError, read_all};
-use hs_session::Report;
 use crate::serving::serve;
 use crate::status::Status;
 use crate::writing::write_all;
 use hs_base::{Sink, Source};
 use hs_expr::Text;
+use hs_session::Report;
 use std::alloc::Global;
 
 /// The most bytes of a bundle.

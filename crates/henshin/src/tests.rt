@@ -197,7 +197,9 @@ fn takes_an_object_once(rt: HostRuntime) -> Result<(), Fail> {
 
 /// Checks that `apply` refuses a bundle with this rule text and this call.
 fn refuses_rule(rt: &impl Abort, alloc: Global, text: &str, call: &str) -> Result<(), AllocError> {
-    let rest = format!(in alloc; "\"graph\": [], \"rules\": \"{text}\", \"sessions\": [[{{\"call\": \"{call}\"}}]]}}")?;
+    let rest = format!(in alloc;
+        "\"graph\": [], \"rules\": \"{text}\", \"sessions\": [[{{\"call\": \"{call}\"}}]]}}"
+    )?;
     let bytes = bundle(alloc, rest.as_str())?;
     refuses(rt, alloc, bytes.as_slice(), text)
 }
@@ -207,7 +209,10 @@ fn refuses_another_rule_text(rt: HostRuntime) -> Result<(), Fail> {
     let alloc = rt.alloc();
     let (status, _) = applied(
         alloc,
-        bundle(alloc, "\"graph\": [], \"rules\": \"rule r() { }\", \"sessions\": [[{\"call\": \"r\"}]]}")?,
+        bundle(
+            alloc,
+            "\"graph\": [], \"rules\": \"rule r() { }\", \"sessions\": [[{\"call\": \"r\"}]]}",
+        )?,
         plain(),
     )?;
     assert_eq!(rt; status, Status::Done);

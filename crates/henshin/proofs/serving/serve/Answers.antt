@@ -25,7 +25,6 @@ returns-in_err-rule-clause-not_built c =
 pub returns-in_default-clause-not_built : goal.returns-in_default-clause-not_built
 returns-in_default-clause-not_built c = λ e. no_request c.args.bytes.now (contents c.in_ok-graph.field-0) c.in_ok-graph.ensures.bundle c.in_default.ensures.other
 
-
 pub returns-then-not-calls-clause-not_built : goal.returns-then-not-calls-clause-not_built
 returns-then-not-calls-clause-not_built c = λ e. no_call c.args.bytes.now (contents c.in_ok-graph.field-0) c.in_ok-rule.rule c.in-Some.request.now c.in_ok-graph.ensures.bundle (rw (← c.deref.ensures, ← c.as_str.ensures) c.in_ok-rule.ensures.rule) c.in-Some.ensures.one (refuted c.calls.result (c.in-Some.request.now.call ≡ c.in_ok-rule.rule.name) c.calls.ensures c.if-not-calls.true)
 
