@@ -1,6 +1,11 @@
 //! Tests of calls that nothing else calls on its happy path: texts, lists, the first fault of a list,
-//! and bundles. They stand here so that the crates below need no tests of their own.
+//! and bundles; and worked examples of the definitions of reports. They stand here so that the crates
+//! below need none of their own.
 #![tactic(auto)]
+
+mod reports;
+
+pub use reports::reports_told;
 
 #[cfg(test)]
 mod tests;
