@@ -1,3 +1,4 @@
 pub mod Equality
 pub mod Evaluation
+pub mod Steps
 pub mod Verdict
