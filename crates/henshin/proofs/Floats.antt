@@ -20,7 +20,7 @@ use Rattle.hs_types.specs.declared.entry.What.TheVariants as what
 use Rattle.hs_types.specs.declared.graph.Graph.{Graph}
 use Rattle.hs_types.specs.declared.graph.Object.{Object}
 use Rattle.hs_types.specs.declared.graph.Slot.{Slot}
-use Rattle.hs_types.specs.declared.meta.Meta.{Meta}
+use Rattle.hs_types.specs.declared.meta.Metamodel.{Metamodel}
 use Rattle.hs_types.specs.declared.request.Arg.{Arg}
 use Rattle.hs_types.specs.declared.request.Arg.TheVariants as arg
 use Rattle.hs_types.specs.declared.request.Args.{Args}
@@ -89,7 +89,7 @@ arg_none (arg.Object name) = refl
 pub args_none : (args : Args) → has_float (args_data args) ≡ false
 args_none args = object_none (map (λ a. (a.name, arg_data a.arg)) args.list) (map_none (λ a. (a.name, arg_data a.arg)) args.list (λ a. arg_none a.arg))
 
-pub attrs_none : (m : Meta) (slots : List Slot) → has_float (attrs_data m slots) ≡ false
+pub attrs_none : (m : Metamodel) (slots : List Slot) → has_float (attrs_data m slots) ≡ false
 attrs_none m slots =
     object_none (map (λ slot. (feature_name m slot.attribute, value_data slot.value)) slots)
     (map_none (λ slot. (feature_name m slot.attribute, value_data slot.value)) slots (λ slot. value_none slot.value))
@@ -97,10 +97,10 @@ attrs_none m slots =
 pub extension_none : (x : ExtensionNames) → has_float (extension_data x) ≡ false
 extension_none x = object_none (extension_members x) (list_none number_data x.edges (λ n. refl), (list_none string x.nodes (λ n. refl), tt))
 
-pub gone_none : (m : Meta) (o : Gone) → has_float (gone_data m o) ≡ false
+pub gone_none : (m : Metamodel) (o : Gone) → has_float (gone_data m o) ≡ false
 gone_none m o = object_none (gone_members m o) (attrs_none m o.slots, (refl, (refl, tt)))
 
-pub outcome_none : (m : Meta) (o : Outcome) → HaveNone (outcome_members m o)
+pub outcome_none : (m : Metamodel) (o : Outcome) → HaveNone (outcome_members m o)
 outcome_none m outcome.Missed = (refl, tt)
 outcome_none m (outcome.Applied found new old gone) = (
   refl,
@@ -133,11 +133,11 @@ pub reference_none : (name : List ℕ) (targets : List (List ℕ)) (ms : List Me
 reference_none name [] ms h = h
 reference_none name (t ∷ ts) ms h = (list_none string (t ∷ ts) (λ n. refl), h)
 
-pub references_none : (m : Meta) (targets : ℕ → List (List ℕ)) (fs : List ℕ) → HaveNone (flat_map (λ f. reference_member (feature_name m f) (targets f)) fs)
+pub references_none : (m : Metamodel) (targets : ℕ → List (List ℕ)) (fs : List ℕ) → HaveNone (flat_map (λ f. reference_member (feature_name m f) (targets f)) fs)
 references_none m targets [] = tt
 references_none m targets (f ∷ fs) = reference_none (feature_name m f) (targets f) _ (references_none m targets fs)
 
-pub line_none : (m : Meta) (g : Graph) (o : Object) → has_float (object_line m g o) ≡ false
+pub line_none : (m : Metamodel) (g : Graph) (o : Object) → has_float (object_line m g o) ≡ false
 line_none m g o =
     object_none (object_members m (name_in g) (edges_from g o.number) o) (
       attrs_none m o.slots,
@@ -154,5 +154,5 @@ line_none m g o =
       ),
     )
 
-pub graph_none : (m : Meta) (g : Graph) → has_float (graph_data m g) ≡ false
+pub graph_none : (m : Metamodel) (g : Graph) → has_float (graph_data m g) ≡ false
 graph_none m g = object_none (graph_members m g) (list_none (object_line m g) g.objects (line_none m g), tt)

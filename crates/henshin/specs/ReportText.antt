@@ -21,7 +21,7 @@ use Rattle.hs_types.specs.declared.graph.Edge.{Edge}
 use Rattle.hs_types.specs.declared.graph.Graph.{Graph}
 use Rattle.hs_types.specs.declared.graph.Object.{Object}
 use Rattle.hs_types.specs.declared.graph.Slot.{Slot}
-use Rattle.hs_types.specs.declared.meta.Meta.{Meta}
+use Rattle.hs_types.specs.declared.meta.Metamodel.{Metamodel}
 use Rattle.hs_types.specs.declared.request.Arg.{Arg}
 use Rattle.hs_types.specs.declared.request.Arg.TheVariants as arg
 use Rattle.hs_types.specs.declared.request.Args.{Args}
@@ -68,13 +68,13 @@ args_data args = object_data (map (λ a. (a.name, arg_data a.arg)) args.list)
 abbrev pub rule_name : RuleSet → ℕ → List ℕ
 rule_name rules n = unwrap_or (option_map (λ rule. rule.name) (slice_get rules.rules n)) []
 
-abbrev pub class_name : Meta → ℕ → List ℕ
+abbrev pub class_name : Metamodel → ℕ → List ℕ
 class_name m c = unwrap_or (option_map (λ class. class.name) (slice_get m.classes c)) []
 
-abbrev pub feature_name : Meta → ℕ → List ℕ
+abbrev pub feature_name : Metamodel → ℕ → List ℕ
 feature_name m f = unwrap_or (option_map (λ feature. feature.name) (slice_get m.features f)) []
 
-abbrev pub attrs_data : Meta → List Slot → Data
+abbrev pub attrs_data : Metamodel → List Slot → Data
 attrs_data m slots = object_data (map (λ slot. (feature_name m slot.attribute, value_data slot.value)) slots)
 
 abbrev pub extension_members : ExtensionNames → List Member
@@ -83,10 +83,10 @@ extension_members x = (codes "edges", list_data number_data x.edges) ∷ (codes 
 abbrev pub extension_data : ExtensionNames → Data
 extension_data x = object_data (extension_members x)
 
-abbrev pub gone_members : Meta → Gone → List Member
+abbrev pub gone_members : Metamodel → Gone → List Member
 gone_members m o = (codes "attrs", attrs_data m o.slots) ∷ (codes "class", string (class_name m o.class)) ∷ (codes "name", string o.name) ∷ []
 
-abbrev pub gone_data : Meta → Gone → Data
+abbrev pub gone_data : Metamodel → Gone → Data
 gone_data m o = object_data (gone_members m o)
 
 -- Where a rule was applied, and what it created, overwrote and deleted.
@@ -95,12 +95,12 @@ match_members found =
     (codes "nodes", list_data string found.nodes) ∷ (codes "edges", list_data number_data found.edges)
     ∷ (codes "copies", list_data (list_data extension_data) found.copies) ∷ []
 
-abbrev pub change_members : Meta → List (List ℕ) → List Value → List Gone → List Member
+abbrev pub change_members : Metamodel → List (List ℕ) → List Value → List Gone → List Member
 change_members m new old gone =
     (codes "new", list_data string new) ∷ (codes "old", list_data value_data old) ∷ (codes "gone", list_data (gone_data m) gone) ∷ []
 
 -- How an attempt went.
-abbrev pub outcome_members : Meta → Outcome → List Member
+abbrev pub outcome_members : Metamodel → Outcome → List Member
 outcome_members m outcome.Missed = (codes "outcome", string (codes "missed")) ∷ []
 outcome_members m (outcome.Applied found new old gone) =
     (codes "outcome", string (codes "applied")) ∷ match_members found ++ change_members m new old gone
@@ -153,22 +153,22 @@ abbrev pub reference_member : List ℕ → List (List ℕ) → List Member
 reference_member name [] = []
 reference_member name (target ∷ targets) = (name, list_data string (target ∷ targets)) ∷ []
 
-abbrev pub refs_members : Meta → (ℕ → List ℕ) → List Edge → List ℕ → List Member
+abbrev pub refs_members : Metamodel → (ℕ → List ℕ) → List Edge → List ℕ → List Member
 refs_members m names edges features = flat_map (λ f. reference_member (feature_name m f) (targets_of names edges f)) features
 
-abbrev pub object_members : Meta → (ℕ → List ℕ) → List Edge → Object → List Member
+abbrev pub object_members : Metamodel → (ℕ → List ℕ) → List Edge → Object → List Member
 object_members m names edges o =
     (codes "attrs", attrs_data m o.slots) ∷ (codes "class", string (class_name m o.class)) ∷ (codes "name", string o.name)
     ∷ (codes "refs", object_data (refs_members m names edges (features_of m o.class))) ∷ []
 
-abbrev pub object_line : Meta → Graph → Object → Data
+abbrev pub object_line : Metamodel → Graph → Object → Data
 object_line m g o = object_data (object_members m (name_in g) (edges_from g o.number) o)
 
 -- A graph: its objects by number, each with its values and, by edge number, its targets.
-abbrev pub graph_members : Meta → Graph → List Member
+abbrev pub graph_members : Metamodel → Graph → List Member
 graph_members m g = (codes "graph", list_data (object_line m g) g.objects) ∷ []
 
-abbrev pub graph_data : Meta → Graph → Data
+abbrev pub graph_data : Metamodel → Graph → Data
 graph_data m g = object_data (graph_members m g)
 
 -- A value's compact text, and the end of its line.

@@ -102,7 +102,7 @@ fn refs_value(
         → IfOk result (λ v. view v ≡ object_data (refs_members meta.now names edges.now (features_of meta.now class))) }
 {
     let mut refs = Members::new(alloc);
-    if let Some(class) = meta.classes.get(usize::from(class)) {
+    if let Some(class) = meta.class(class) {
         add_refs(
             alloc,
             &mut refs,

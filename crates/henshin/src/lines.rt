@@ -363,7 +363,7 @@ fn rule_name(rules: &RuleSet, rule: u16) -> &str
 pub fn class_name(meta: &Meta, class: u16) -> &str
     ensures { result.now ≡ class_name meta.now class }
 {
-    match meta.classes.get(usize::from(class)) {
+    match meta.class(class) {
         Some(class) => class.name.as_str(),
         None => "",
     }
@@ -372,7 +372,7 @@ pub fn class_name(meta: &Meta, class: u16) -> &str
 pub fn feature_name(meta: &Meta, feature: FeatureNo) -> &str
     ensures { result.now ≡ feature_name meta.now feature }
 {
-    match meta.features.get(usize::from(feature)) {
+    match meta.feature(feature) {
         Some(feature) => feature.name.as_str(),
         None => "",
     }

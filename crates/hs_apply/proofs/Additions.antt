@@ -13,7 +13,7 @@ use Rattle.hs_types.specs.declared.matching.Match.{Match}
 use Rattle.hs_types.specs.declared.meta.Feature.{Feature}
 use Rattle.hs_types.specs.declared.meta.FeatureKind.{FeatureKind}
 use Rattle.hs_types.specs.declared.meta.FeatureKind.TheVariants.{Attribute, Reference}
-use Rattle.hs_types.specs.declared.meta.Meta.{Meta}
+use Rattle.hs_types.specs.declared.meta.Metamodel.{Metamodel}
 use Rattle.hs_types.specs.declared.plan.End.{End}
 use Rattle.hs_types.specs.declared.plan.Plan.{Plan}
 use Rattle.hs_types.specs.declared.rule.PatternEdge.{PatternEdge}
@@ -43,7 +43,7 @@ filter_map-filter f q (x ∷ xs) none = elim (cases_Bool (q x)) [
   | inr e ↦ rw (e, none x e, filter_map-filter f q xs none) refl
 ]
 
-no_type-no_default : (m : Meta) (f : ℕ) → is_some (type_of m f) ≡ false → default_of m f ≡ None
+no_type-no_default : (m : Metamodel) (f : ℕ) → is_some (type_of m f) ≡ false → default_of m f ≡ None
 no_type-no_default m f = go (feature_at m f)
   where
     go : (found : Option Feature) → is_some (option_and_then (λ feature. type_of_kind feature.kind) found) ≡ false → option_and_then (λ feature. default_of_kind feature.kind) found ≡ None
@@ -55,10 +55,10 @@ no_type-no_default m f = go (feature_at m f)
         by_kind (Reference target containment lower upper) e = refl
 
 -- Where nothing is set, a made object has its class's defaults.
-made_slots-default : (m : Meta) (env : Env) (n class : ℕ) → made_slots m env [] n class ≡ default_slots m class
+made_slots-default : (m : Metamodel) (env : Env) (n class : ℕ) → made_slots m env [] n class ≡ default_slots m class
 made_slots-default m env n class = filter_map-filter (default_slot m) (λ f. is_some (type_of m f)) (features_of m class) (λ f e. ap (option_map (λ v. record { attribute = f; value = v })) (no_type-no_default m f e))
 
-objects_for-default : (m : Meta) (env : Env) (n : ℕ) (nodes : List PatternNode) → objects_for m env [] n nodes ≡ map (made_object m) (made_nodes nodes)
+objects_for-default : (m : Metamodel) (env : Env) (n : ℕ) (nodes : List PatternNode) → objects_for m env [] n nodes ≡ map (made_object m) (made_nodes nodes)
 objects_for-default m env n [] = refl
 objects_for-default m env n (node ∷ nodes) = elim (cases_Bool (is_make node.mark)) [
   | inl e ↦ rw (e, made_slots-default m env n node.class, objects_for-default m env (n + 1) nodes) refl
@@ -73,17 +73,17 @@ few_left q (x ∷ xs) = elim (cases_Bool (q x)) [
 ]
 
 -- No more is made than is written.
-pub few_objects : (m : Meta) (nodes : List PatternNode) → length (map (made_object m) (made_nodes nodes)) ≤ length nodes
+pub few_objects : (m : Metamodel) (nodes : List PatternNode) → length (map (made_object m) (made_nodes nodes)) ≤ length nodes
 few_objects m nodes = rw (length-map (made_nodes nodes) (made_object m)) (few_left (λ (node : PatternNode). is_make node.mark) nodes)
 
 pub few_edges : (end : ℕ → End) (edges : List PatternEdge) → length (edges_for end edges) ≤ length edges
 few_edges end edges = rw (length-map (made_edges edges) _) (few_left (λ (edge : PatternEdge). is_make edge.mark) edges)
 
 -- What a rule that only adds does at a match.
-abbrev pub additions : (m : Meta) (rule : Rule) (f : Match) → Plan
+abbrev pub additions : (m : Metamodel) (rule : Rule) (f : Match) → Plan
 additions m rule f = record { drop_objects = []; drop_edges = []; writes = []; make_objects = map (made_object m) (made_nodes rule.shape.nodes); make_edges = edges_for (end_of rule.shape.nodes f.nodes) rule.shape.edges }
 
-pub plan_adds : (m : Meta) (g : Graph) (rule : Rule) (f : Match) → OnlyAdds rule → plan_of m g rule no_args f ≡ additions m rule f
+pub plan_adds : (m : Metamodel) (g : Graph) (rule : Rule) (f : Match) → OnlyAdds rule → plan_of m g rule no_args f ≡ additions m rule f
 plan_adds m g rule f adds =
     let nodes : dropped_nodes rule.shape (kernel_of f) ≡ [] =
     beside_none (λ (node : PatternNode). is_drop node.mark) (left_nodes rule.shape.nodes) f.nodes (All-filter (λ (node : PatternNode). is_left node.mark) (λ (node : PatternNode). is_drop node.mark ≡ false) rule.shape.nodes adds.keeps_nodes) in

@@ -4,7 +4,7 @@ use Rattle.std.specs.List.{filter_map}
 use Rattle.std.specs.Option.{option_map}
 use Rattle.hs_types.specs.declared.graph.Graph.{Graph}
 use Rattle.hs_types.specs.declared.graph.Slot.{Slot}
-use Rattle.hs_types.specs.declared.meta.Meta.{Meta}
+use Rattle.hs_types.specs.declared.meta.Metamodel.{Metamodel}
 use Rattle.hs_types.specs.declared.plan.End.{End}
 use Rattle.hs_types.specs.declared.plan.End.TheVariants.{Old, New}
 use Rattle.hs_types.specs.declared.plan.MadeObject.{MadeObject}
@@ -13,14 +13,14 @@ use Rattle.hs_types.specs.declared.rule.PatternNode.{PatternNode}
 use Rattle.hs_types.specs.Metamodel.{default_of, features_of}
 
 -- The slot of an attribute with its default.
-abbrev pub default_slot : Meta → ℕ → Option Slot
+abbrev pub default_slot : Metamodel → ℕ → Option Slot
 default_slot m a = option_map (λ v. record { attribute = a; value = v }) (default_of m a)
 
 -- A slot for each attribute of the class, with its default.
-abbrev pub default_slots : Meta → ℕ → List Slot
+abbrev pub default_slots : Metamodel → ℕ → List Slot
 default_slots m class = filter_map (default_slot m) (features_of m class)
 
-abbrev pub made_object : Meta → PatternNode → MadeObject
+abbrev pub made_object : Metamodel → PatternNode → MadeObject
 made_object m node = record { class = node.class; slots = default_slots m node.class }
 
 -- Numbers and names are left for all that the plan makes.

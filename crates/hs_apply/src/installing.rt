@@ -1,6 +1,6 @@
 ghost use Rattle.std.specs.Prelude.{◌≡◌, ◌+◌, ◌^◌, ◌≤◌, ◌<◌, ◌++◌, [], IfOk, OnOk, drop, length, map};
 ghost use Rattle.std.specs.List.{All};
-ghost use Rattle.hs_types.specs.declared.meta.Meta.{Meta};
+ghost use Rattle.hs_types.specs.declared.meta.Metamodel.{Metamodel};
 ghost use Rattle.hs_types.specs.Journal.{new_names};
 ghost use Rattle.hs_types.specs.Plan.{Fits};
 ghost use Rattle.hs_types.specs.Step.{new_edges, new_objects, number_of, step};
@@ -21,7 +21,7 @@ pub struct Stepped {
 /// Carries out a plan that fits the graph and only makes objects and edges. New objects and edges get
 /// the next numbers, new objects the next names.
 pub fn install(alloc: Global, graph: Graph, plan: &Plan) -> Result<Stepped, AllocError>
-    requires fits { (m : Meta) × Fits m graph plan.now }
+    requires fits { (m : Metamodel) × Fits m graph plan.now }
     requires only_makes { OnlyMakes plan.now }
     requires room { HasRoom graph plan.now }
     ensures graph { IfOk result (λ stepped. stepped.graph ≡ step graph plan.now) }

@@ -10,7 +10,7 @@ ghost use Rattle.hs_apply.specs.Additions.{OnlyMakes, default_slots, made_object
 use hs_expr::{List, Value};
 use hs_finding::image_of;
 use hs_types::{
-    ClassNo, End, FeatureKind, FeatureNo, MadeEdge, MadeObject, Mark, Match, Meta, ObjectNo,
+    ClassNo, End, MadeEdge, MadeObject, Mark, Match, Meta, ObjectNo,
     PatternEdge, PatternNode, Plan, Rule, Slot,
 };
 use std::alloc::{AllocError, Global};
@@ -59,8 +59,8 @@ fn default_slots(alloc: Global, meta: &Meta, class: ClassNo) -> Result<List<Slot
     ensures { IfOk result (λ slots. slots ≡ default_slots meta.now class) }
 {
     let mut slots = List::new(alloc);
-    for feature in features_of(meta, class) {
-        if let Some(value) = default_of(meta, *feature) {
+    for feature in meta.features_of(class) {
+        if let Some(value) = meta.default_of(*feature) {
             slots.push(Slot {
                 attribute: *feature,
                 value: value.clone()?,
@@ -68,25 +68,6 @@ fn default_slots(alloc: Global, meta: &Meta, class: ClassNo) -> Result<List<Slot
         }
     }
     Ok(slots)
-}
-
-fn features_of(meta: &Meta, class: ClassNo) -> &[FeatureNo]
-    ensures { result.now ≡ features_of meta.now class }
-{
-    match meta.classes.get(usize::from(class)) {
-        Some(class) => class.features.as_slice(),
-        None => &[],
-    }
-}
-
-/// The default of an attribute.
-fn default_of(meta: &Meta, feature: FeatureNo) -> Option<&Value>
-    ensures { option_copied result ≡ default_of meta.now feature }
-{
-    match &meta.features.get(usize::from(feature))?.kind {
-        FeatureKind::Attribute { default, .. } => Some(default),
-        FeatureKind::Reference { .. } => None,
-    }
 }
 
 fn made_edges(

@@ -11,7 +11,7 @@ use Rattle.hs_text.specs.declared.syntax.Item.TheVariants as item
 use Rattle.hs_text.specs.declared.syntax.Mark.TheVariants.{Preserve, Create, Delete}
 use Rattle.hs_text.specs.declared.syntax.Simple.TheVariants as simple
 use Rattle.hs_types.specs.declared.meta.Class.{Class}
-use Rattle.hs_types.specs.declared.meta.Meta.{Meta}
+use Rattle.hs_types.specs.declared.meta.Metamodel.{Metamodel}
 use Rattle.hs_types.specs.declared.rule.PatternEdge.{PatternEdge}
 use Rattle.hs_types.specs.declared.rule.PatternNode.{PatternNode}
 use Rattle.hs_types.specs.declared.rule.Rule.{Rule}
@@ -83,11 +83,11 @@ edges-stay (i ∷ items) h =
     edge-here i (filter_map written_edge items) parts.0 (edges-stay items parts.1)
 
 -- What is known of a node that a declared node means.
-pub record IsNode (m : Meta) (written : WrittenNode) (node : PatternNode) : Type 0 where
+pub record IsNode (m : Metamodel) (written : WrittenNode) (node : PatternNode) : Type 0 where
   pub class : class_named m written.class.text ≡ Some node.class
   pub mark : node.mark ≡ mark_of written.mark
 
-pub is-node : (m : Meta) (written : WrittenNode) (node : PatternNode) → node_of m written ≡ Some node → IsNode m written node
+pub is-node : (m : Metamodel) (written : WrittenNode) (node : PatternNode) → node_of m written ≡ Some node → IsNode m written node
 unfolding node_of
 is-node m written node h =
     let a = came (class_named m written.class.text) _ node h in
@@ -96,7 +96,7 @@ is-node m written node h =
     subst (λ (n : PatternNode). IsNode m written n) whole (record { class = a.first; mark = refl })
 
 -- What is known of an edge that a declared edge means.
-pub record IsEdge (m : Meta) (nodes : List PatternNode) (written : WrittenEdge) (edge : PatternEdge) : Type 0 where
+pub record IsEdge (m : Metamodel) (nodes : List PatternNode) (written : WrittenEdge) (edge : PatternEdge) : Type 0 where
   pub from : PatternNode
   pub to : PatternNode
   pub source : slice_get nodes edge.source ≡ Some from
@@ -107,7 +107,7 @@ pub record IsEdge (m : Meta) (nodes : List PatternNode) (written : WrittenEdge) 
   pub joins_to : joins edge.mark to.mark ≡ true
   pub mark : edge.mark ≡ mark_of written.mark
 
-pub is-edge : (m : Meta) (nodes : List PatternNode) (written : WrittenEdge) (edge : PatternEdge) → edge_of m nodes written ≡ Some edge → IsEdge m nodes written edge
+pub is-edge : (m : Metamodel) (nodes : List PatternNode) (written : WrittenEdge) (edge : PatternEdge) → edge_of m nodes written ≡ Some edge → IsEdge m nodes written edge
 unfolding edge_of
 is-edge m nodes written edge h =
     let source = came (node_named nodes written.source.text) _ edge h in
@@ -144,7 +144,7 @@ position-within p xs i h =
     let under : position_or_len p xs < length xs = ltb-true (position_or_len p xs) (length xs) parts.0 in
     subst (λ (n : ℕ). n < length xs) parts.1 under
 
-class-stands : (m : Meta) (name : List ℕ) (c : ℕ) → class_named m name ≡ Some c → c < length m.classes
+class-stands : (m : Metamodel) (name : List ℕ) (c : ℕ) → class_named m name ≡ Some c → c < length m.classes
 class-stands m name c h =
     let a = came (position (λ (class : Class). same_text class.name name) m.classes) number c h in
     let there : a.of < length m.classes = position-within (λ (class : Class). same_text class.name name) m.classes a.of a.first in
@@ -160,7 +160,7 @@ All-at P xs i a h =
     ]
 
 -- Where all classes are concrete, a declared node is one that objects can have.
-node-fits : (m : Meta) → AllConcrete m → (written : WrittenNode) (node : PatternNode) → node_of m written ≡ Some node → NodeFits m node
+node-fits : (m : Metamodel) → AllConcrete m → (written : WrittenNode) (node : PatternNode) → node_of m written ≡ Some node → NodeFits m node
 node-fits m concrete written node h =
     let is = is-node m written node h in
     let there = class-stands m written.class.text node.class is.class in
@@ -186,7 +186,7 @@ found-has test (g ∷ fs) f h = go (test g) (found-has test fs f) h
     go true rest k = let same : g ≡ f = Some-inside k in or-first (eqb f g) (has fs f) (eqb-itself f g same)
     go false rest k = or-second (eqb f g) (has fs f) (rest k)
 
-edge-fits : (m : Meta) (nodes : List PatternNode) (written : WrittenEdge) (edge : PatternEdge) → edge_of m nodes written ≡ Some edge → EdgeFits m (joins edge.mark) nodes edge
+edge-fits : (m : Metamodel) (nodes : List PatternNode) (written : WrittenEdge) (edge : PatternEdge) → edge_of m nodes written ≡ Some edge → EdgeFits m (joins edge.mark) nodes edge
 edge-fits m nodes written edge h =
     let is = is-edge m nodes written edge h in (
       rw is.source (is.joins_from, found-has (is_named m written.reference.text) (features_of m is.from.class) edge.reference is.reference),
@@ -208,20 +208,20 @@ names-apart (node ∷ nodes) h =
     let parts = both (not (list_any (λ other. same_text node.name other.name) nodes)) (names_differ nodes) h in
     (none-same node.name nodes (not-true (list_any (λ other. same_text node.name other.name) nodes) parts.0), names-apart nodes parts.1)
 
-few-nodes : (m : Meta) {rule : Rule} (is : Meant m rule) → length is.nodes ≤ 12
+few-nodes : (m : Metamodel) {rule : Rule} (is : Meant m rule) → length is.nodes ≤ 12
 few-nodes m is =
     let same : length is.nodes ≡ length (written_nodes is.written.items) = length-map_all (node_of m) (written_nodes is.written.items) is.nodes is.nodes_made in
     let few = few_nodes is.written is.is_few in
     omega arith
 
-few-edges : (m : Meta) {rule : Rule} (is : Meant m rule) → length is.edges ≤ 16
+few-edges : (m : Metamodel) {rule : Rule} (is : Meant m rule) → length is.edges ≤ 16
 few-edges m is =
     let same : length is.edges ≡ length (written_edges is.written.items) = length-map_all (edge_of m is.nodes) (written_edges is.written.items) is.edges is.edges_made in
     let few = few_edges is.written is.is_few in
     omega arith
 
 -- A rule that a written rule means is built.
-pub built : (m : Meta) (rule : Rule) → Meant m rule → IsBuilt rule
+pub built : (m : Metamodel) (rule : Rule) → Meant m rule → IsBuilt rule
 built m rule is =
     let items = is.written.items in
     let all : list_all is_built items ≡ true = (both (eqb (length is.written.params) 0) (list_all is_built items) is.is_built).1 in
@@ -251,7 +251,7 @@ few-parallel among (edge ∷ edges) h =
     All-cons (λ (e : PatternEdge). parallel_to e among ≤ 3) edge edges (few-at-most (parallel_to edge among) 3 parts.0) (few-parallel among edges parts.1)
 
 -- Such a rule keeps the limits of rules.
-pub small : (m : Meta) (rule : Rule) → Meant m rule → IsSmallRule rule
+pub small : (m : Metamodel) (rule : Rule) → Meant m rule → IsSmallRule rule
 small m rule is = subst (λ (r : Rule). IsSmallRule r) (sym is.whole) (record {
   params = search rules;
   parts = search rules;
@@ -268,7 +268,7 @@ nodes-alone : (name : List ℕ) (nodes : List PatternNode) (edges : List Pattern
 nodes-alone name nodes edges = append-nil ((nodes ++ []) ++ []) ∙ append-nil (nodes ++ []) ∙ append-nil nodes
 
 -- Over a metamodel of concrete classes it is a rule.
-pub formed : (m : Meta) (rule : Rule) → AllConcrete m → Meant m rule → IsRule m rule
+pub formed : (m : Metamodel) (rule : Rule) → AllConcrete m → Meant m rule → IsRule m rule
 formed m rule concrete is = subst (λ (r : Rule). IsRule m r) (sym is.whole) (record {
   params_differ = tt;
   params_fit = All-nil _;

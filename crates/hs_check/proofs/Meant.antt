@@ -1,7 +1,7 @@
 use Rattle.std.proofs.Common.{ℕ, ◌≡◌, List, [], true, Some, sym}
 use Rattle.hs_text.specs.declared.syntax.Rule.{Rule as WrittenRule}
 use Rattle.hs_text.specs.declared.syntax.Syntax.{Syntax}
-use Rattle.hs_types.specs.declared.meta.Meta.{Meta}
+use Rattle.hs_types.specs.declared.meta.Metamodel.{Metamodel}
 use Rattle.hs_types.specs.declared.rule.PatternEdge.{PatternEdge}
 use Rattle.hs_types.specs.declared.rule.PatternNode.{PatternNode}
 use Rattle.hs_types.specs.declared.rule.Rule.{Rule}
@@ -25,7 +25,7 @@ rule_with name nodes edges = record {
 }
 
 -- All that is known of a rule that a written rule means.
-pub record Meant (m : Meta) (rule : Rule) : Type 0 where
+pub record Meant (m : Metamodel) (rule : Rule) : Type 0 where
   pub written : WrittenRule
   pub nodes : List PatternNode
   pub edges : List PatternEdge
@@ -37,7 +37,7 @@ pub record Meant (m : Meta) (rule : Rule) : Type 0 where
   pub few : few_parallel edges ≡ true
   pub whole : rule ≡ rule_with written.name.text nodes edges
 
-meaning : (m : Meta) (written : WrittenRule) (rule : Rule) → meaning_of m written ≡ Some rule → Meant m rule
+meaning : (m : Metamodel) (written : WrittenRule) (rule : Rule) → meaning_of m written ≡ Some rule → Meant m rule
 unfolding meaning_of
 meaning m written rule h =
     let a = went (is_built_rule written) _ rule h in
@@ -48,7 +48,7 @@ meaning m written rule h =
     let f = went (few_parallel e.of) _ rule e.second in
     record { written = written; nodes = c.of; edges = e.of; is_built = a.is; is_few = b.is; nodes_made = c.first; differ = d.is; edges_made = e.first; few = f.is; whole = sym (Some-inside f.then) }
 
-pub meant : (m : Meta) (syntax : Syntax) (rule : Rule) → rule_of m syntax ≡ Some rule → Meant m rule
+pub meant : (m : Metamodel) (syntax : Syntax) (rule : Rule) → rule_of m syntax ≡ Some rule → Meant m rule
 meant m syntax rule h =
     let a = came (only_rule syntax.definitions) (meaning_of m) rule h in
     meaning m a.of rule a.second

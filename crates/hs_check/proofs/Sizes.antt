@@ -1,5 +1,5 @@
 use Rattle.std.proofs.Common.{suc, ◌≤◌, ◌≡◌, List, [], ◌∷◌, true, Option, Some, length, ap, sym, ◌∙◌, arith, rules}
-use Rattle.hs_types.specs.declared.meta.Meta.{Meta}
+use Rattle.hs_types.specs.declared.meta.Metamodel.{Metamodel}
 use Rattle.hs_types.specs.declared.rule.PatternNode.{PatternNode}
 use Rattle.hs_types.specs.Lists.{map_all}
 use Rattle.hs_text.specs.declared.syntax.Rule.{Rule as WrittenRule}
@@ -22,7 +22,7 @@ pub few_edges : (written : WrittenRule) → has_few written ≡ true → length 
 few_edges written few = search rules
 
 -- A rule with few nodes has few of them over the metamodel.
-pub few_made : (m : Meta) (written : WrittenRule) (nodes : List PatternNode) → demand (has_few written) ≡ Some tt → map_all (node_of m) (written_nodes written.items) ≡ Some nodes → length nodes ≤ 12
+pub few_made : (m : Metamodel) (written : WrittenRule) (nodes : List PatternNode) → demand (has_few written) ≡ Some tt → map_all (node_of m) (written_nodes written.items) ≡ Some nodes → length nodes ≤ 12
 few_made m written nodes few made =
     let fewer : length (written_nodes written.items) ≤ 12 = few_nodes written (demand-true (has_few written) few) in
     let same : length nodes ≡ length (written_nodes written.items) = length-map_all (node_of m) (written_nodes written.items) nodes made in

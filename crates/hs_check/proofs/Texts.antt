@@ -12,7 +12,7 @@ use Rattle.hs_text.specs.declared.syntax.Syntax.{Syntax}
 use Rattle.hs_text.specs.Grammar.{IsText}
 use Rattle.hs_text.specs.Parsing.{AreTokens, IsSyntaxOf, IsTextFault}
 use Rattle.hs_text.proofs.Judged.{no-wrong, one, text-right}
-use Rattle.hs_types.specs.declared.meta.Meta.{Meta}
+use Rattle.hs_types.specs.declared.meta.Metamodel.{Metamodel}
 use Rattle.hs_types.specs.declared.rule.Rule.{Rule}
 use Rattle.hs_check.specs.declared.fault.RuleFault.{RuleFault}
 use Rattle.hs_check.specs.Answers.{Gives}
@@ -57,18 +57,18 @@ same-definitions source s t a b =
     one source a.0 s.definitions t.definitions a.2 (subst (λ (ts : List Token). IsText source ts t.definitions) same b.2)
 
 -- Two syntaxes of a text mean the same.
-pub same-meaning : (source : List ℕ) (m : Meta) (s t : Syntax) → IsSyntaxOf source s → IsSyntaxOf source t → rule_of m s ≡ rule_of m t
+pub same-meaning : (source : List ℕ) (m : Metamodel) (s t : Syntax) → IsSyntaxOf source s → IsSyntaxOf source t → rule_of m s ≡ rule_of m t
 same-meaning source m s t a b = ap (λ (ds : List Definition). only_rule ds >>= meaning_of m) (same-definitions source s t a b)
 
 -- A metamodel and a text have one rule at most.
-pub one-rule : (source : List ℕ) (m : Meta) (s t : Syntax) (r q : Rule) → IsSyntaxOf source s → IsSyntaxOf source t → rule_of m s ≡ Some r → rule_of m t ≡ Some q → r ≡ q
+pub one-rule : (source : List ℕ) (m : Metamodel) (s t : Syntax) (r q : Rule) → IsSyntaxOf source s → IsSyntaxOf source t → rule_of m s ≡ Some r → rule_of m t ≡ Some q → r ≡ q
 one-rule source m s t r q a b x y = Some-inside (sym x ∙ same-meaning source m s t a b ∙ y)
 
 -- Where the syntax of a text means nothing, the text has no rule.
-pub no-rule : (source : List ℕ) (m : Meta) (s : Syntax) → IsSyntaxOf source s → rule_of m s ≡ None → (r : Rule) (t : Syntax) → IsSyntaxOf source t → rule_of m t ≡ Some r → ⊥
+pub no-rule : (source : List ℕ) (m : Metamodel) (s : Syntax) → IsSyntaxOf source s → rule_of m s ≡ None → (r : Rule) (t : Syntax) → IsSyntaxOf source t → rule_of m t ≡ Some r → ⊥
 no-rule source m s a none r t b y = let e : Some r ≡ None = sym y ∙ sym (same-meaning source m s t a b) ∙ none in absurd (cc)
 
 -- What a syntax of the text comes to is what the text means.
-pub means-it : (m : Meta) (text : List ℕ) (s : Syntax) (answer : Result Rule RuleFault) → IsSyntaxOf (chars text) s → Gives answer (rule_of m s) → IfOk answer (IsRuleOf m text)
+pub means-it : (m : Metamodel) (text : List ℕ) (s : Syntax) (answer : Result Rule RuleFault) → IsSyntaxOf (chars text) s → Gives answer (rule_of m s) → IfOk answer (IsRuleOf m text)
 means-it m text s (Ok rule) is gives = (s, is, gives)
 means-it m text s (Err fault) is gives = tt

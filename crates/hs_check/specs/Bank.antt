@@ -10,13 +10,13 @@ use Rattle.hs_text.specs.declared.syntax.Rule.{Rule as WrittenRule}
 use Rattle.hs_text.specs.declared.syntax.Simple.TheVariants as simple
 use Rattle.hs_types.specs.declared.meta.DataType.TheVariants.{EInt}
 use Rattle.hs_types.specs.declared.meta.FeatureKind.TheVariants.{Attribute, Reference}
-use Rattle.hs_types.specs.declared.meta.Meta.{Meta}
+use Rattle.hs_types.specs.declared.meta.Metamodel.{Metamodel}
 use Rattle.hs_types.specs.declared.rule.PatternEdge.{PatternEdge}
 use Rattle.hs_types.specs.declared.rule.PatternNode.{PatternNode}
 use Rattle.hs_types.specs.declared.rule.Rule.{Rule}
 
 -- Client is class 0, Account class 1; accounts is feature 0, balance 1, owner 2.
-abbrev pub bank : Meta
+abbrev pub bank : Metamodel
 bank = record {
   format = 1;
   classes = record { name = codes "Client"; is_abstract = false; supers = []; features = 0 ∷ [] }

@@ -1,7 +1,7 @@
 -- What a declared node or edge means, and what is asked of it.
 use Rattle.std.specs.Prelude.{List, [], ◌∷◌, Bool, true, ◌&&◌, not, eqb, nat_le, Option, Some, slice_get}
 use Rattle.std.specs.List.{list_any, list_all}
-use Rattle.hs_types.specs.declared.meta.Meta.{Meta}
+use Rattle.hs_types.specs.declared.meta.Metamodel.{Metamodel}
 use Rattle.hs_types.specs.declared.rule.PatternEdge.{PatternEdge}
 use Rattle.hs_types.specs.declared.rule.PatternNode.{PatternNode}
 use Rattle.hs_types.specs.Limits.{parallel_to}
@@ -13,13 +13,13 @@ use Rattle.hs_check.specs.Steps.{◌>>=◌, demand}
 use Rattle.hs_check.specs.Written.{WrittenEdge, WrittenNode, mark_of}
 
 -- A node's class is one of the metamodel.
-unfoldable pub node_of : Meta → WrittenNode → Option PatternNode
+unfoldable pub node_of : Metamodel → WrittenNode → Option PatternNode
 node_of m node = do
   class ← class_named m node.class.text
   Some (record { name = node.name.text; class = class; mark = mark_of node.mark })
 
 -- An edge joins nodes of the rule, of which it may join these two. Its reference is a reference among the features of its source's class, and its target's class is the one that the reference leads to.
-unfoldable pub edge_of : Meta → List PatternNode → WrittenEdge → Option PatternEdge
+unfoldable pub edge_of : Metamodel → List PatternNode → WrittenEdge → Option PatternEdge
 edge_of m nodes edge = do
   source ← node_named nodes edge.source.text
   target ← node_named nodes edge.target.text

@@ -4,7 +4,7 @@ use Rattle.std.specs.Str.{chars}
 use Rattle.hs_text.specs.declared.syntax.Rule.{Rule as WrittenRule}
 use Rattle.hs_text.specs.declared.syntax.Syntax.{Syntax}
 use Rattle.hs_text.specs.Parsing.{IsSyntaxOf}
-use Rattle.hs_types.specs.declared.meta.Meta.{Meta}
+use Rattle.hs_types.specs.declared.meta.Metamodel.{Metamodel}
 use Rattle.hs_types.specs.declared.rule.Rule.{Rule}
 use Rattle.hs_types.specs.Lists.{map_all}
 use Rattle.hs_check.specs.Elements.{edge_of, few_parallel, names_differ, node_of}
@@ -12,7 +12,7 @@ use Rattle.hs_check.specs.Steps.{◌>>=◌, demand}
 use Rattle.hs_check.specs.Written.{has_few, is_built_rule, only_rule, written_edges, written_nodes}
 
 -- The rule that a written rule means: its nodes, whose names differ, and the edges between them, each in written order; at most 12 nodes and 16 edges, and at most 3 edges of one source, reference and target.
-unfoldable pub meaning_of : Meta → WrittenRule → Option Rule
+unfoldable pub meaning_of : Metamodel → WrittenRule → Option Rule
 meaning_of m written = do
   _ ← demand (is_built_rule written)
   _ ← demand (has_few written)
@@ -32,13 +32,13 @@ meaning_of m written = do
   })
 
 -- The rule that a syntax means: that of its one rule, where it has nothing else.
-abbrev pub rule_of : Meta → Syntax → Option Rule
+abbrev pub rule_of : Metamodel → Syntax → Option Rule
 rule_of m syntax = only_rule syntax.definitions >>= meaning_of m
 
 -- The text, in UTF-8, is one of the grammar, and its syntax means this rule.
-abbrev pub IsRuleOf : Meta → List ℕ → Rule → Type 0
+abbrev pub IsRuleOf : Metamodel → List ℕ → Rule → Type 0
 IsRuleOf m text rule = (syntax : Syntax) × IsSyntaxOf (chars text) syntax × (rule_of m syntax ≡ Some rule)
 
 -- The text means no rule.
-abbrev pub HasNoRule : Meta → List ℕ → Type 0
+abbrev pub HasNoRule : Metamodel → List ℕ → Type 0
 HasNoRule m text = (rule : Rule) → IsRuleOf m text rule → ⊥

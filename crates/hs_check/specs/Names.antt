@@ -2,7 +2,7 @@
 use Rattle.std.specs.Prelude.{ℕ, List, Bool, false, nat_lt, if◌then◌else◌, Option, Some, None}
 use Rattle.std.specs.List.{find, position}
 use Rattle.std.specs.Option.{option_map_or}
-use Rattle.hs_types.specs.declared.meta.Meta.{Meta}
+use Rattle.hs_types.specs.declared.meta.Metamodel.{Metamodel}
 use Rattle.hs_types.specs.declared.rule.PatternNode.{PatternNode}
 use Rattle.hs_types.specs.Lists.{same_text}
 use Rattle.hs_types.specs.Metamodel.{feature_at, features_of}
@@ -13,7 +13,7 @@ abbrev pub number : ℕ → Option ℕ
 number place = if nat_lt place 65536 then Some place else None
 
 -- The first class of this name, by its number.
-abbrev pub class_named : Meta → List ℕ → Option ℕ
+abbrev pub class_named : Metamodel → List ℕ → Option ℕ
 class_named m name = position (λ class. same_text class.name name) m.classes >>= number
 
 -- The first node of this name, by its number.
@@ -21,9 +21,9 @@ abbrev pub node_named : List PatternNode → List ℕ → Option ℕ
 node_named nodes name = position (λ node. same_text node.name name) nodes
 
 -- The feature has this name.
-abbrev pub is_named : Meta → List ℕ → ℕ → Bool
+abbrev pub is_named : Metamodel → List ℕ → ℕ → Bool
 is_named m name f = option_map_or (λ feature. same_text feature.name name) (feature_at m f) false
 
 -- The first of the class's features that has this name, by its number.
-abbrev pub feature_named : Meta → ℕ → List ℕ → Option ℕ
+abbrev pub feature_named : Metamodel → ℕ → List ℕ → Option ℕ
 feature_named m c name = find (is_named m name) (features_of m c)

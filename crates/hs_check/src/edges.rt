@@ -8,7 +8,7 @@ ghost use Rattle.hs_check.specs.Written.{written_edges};
 
 use crate::RuleFault;
 use crate::fault::{demand, needed};
-use crate::names::{feature_named, node_named, target_of};
+use crate::names::{feature_named, node_named};
 use crate::written::mark_of;
 use hs_expr::{List, Name};
 use hs_text::{Element, Item, Mark as WrittenMark, Simple};
@@ -82,7 +82,7 @@ fn edge_of(
     let from = needed(nodes.get(usize::from(source)))?;
     let to = needed(nodes.get(usize::from(target)))?;
     let reference = needed(feature_named(meta, from.class, &reference.text))?;
-    let class = needed(target_of(meta, reference))?;
+    let class = needed(meta.target_of(reference))?;
     demand(to.class == class)?;
     demand(joins(mark, from.mark) && joins(mark, to.mark))?;
     Ok(PatternEdge {

@@ -18,7 +18,7 @@ pub fn class_named(meta: &Meta, name: &Text) -> Option<ClassNo>
 fn class_place(meta: &Meta, name: &Text) -> Option<usize>
     ensures { result ≡ position (λ class. same_text class.name name.now) meta.now.classes }
 {
-    meta.classes.iter().position(|class| class.name == *name)
+    meta.plain().classes.iter().position(|class| class.name == *name)
 }
 
 /// The first node of this name.
@@ -40,7 +40,7 @@ fn node_place(nodes: &[PatternNode], name: &Text) -> Option<usize>
 pub fn feature_named(meta: &Meta, class: ClassNo, name: &Text) -> Option<FeatureNo>
     ensures { result ≡ feature_named meta.now class name.now }
 {
-    let class = meta.classes.get(usize::from(class))?;
+    let class = meta.class(class)?;
     first_named(meta, class.features.as_slice(), name)
 }
 
@@ -56,18 +56,8 @@ fn first_named(meta: &Meta, features: &[FeatureNo], name: &Text) -> Option<Featu
 fn is_named(meta: &Meta, name: &Text, feature: FeatureNo) -> bool
     ensures { result ≡ is_named meta.now name.now feature }
 {
-    match meta.features.get(usize::from(feature)) {
+    match meta.feature(feature) {
         Some(feature) => feature.name == *name,
         None => false,
-    }
-}
-
-/// The class that a reference leads to.
-pub fn target_of(meta: &Meta, feature: FeatureNo) -> Option<ClassNo>
-    ensures { result ≡ target_of meta.now feature }
-{
-    match &meta.features.get(usize::from(feature))?.kind {
-        FeatureKind::Reference { target, .. } => Some(*target),
-        FeatureKind::Attribute { .. } => None,
     }
 }

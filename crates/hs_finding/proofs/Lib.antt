@@ -1,4 +1,3 @@
-pub mod Conforming
 pub mod Images
 pub mod Links
 pub mod Lists

@@ -6,7 +6,7 @@ use Rattle.std.proofs.lemmas.Option.{slice_get_within}
 use Rattle.hs_types.specs.declared.graph.Edge.{Edge}
 use Rattle.hs_types.specs.declared.graph.Graph.{Graph}
 use Rattle.hs_types.specs.declared.graph.Object.{Object}
-use Rattle.hs_types.specs.declared.meta.Meta.{Meta}
+use Rattle.hs_types.specs.declared.meta.Metamodel.{Metamodel}
 use Rattle.hs_types.specs.Metamodel.{Conforms}
 use Rattle.hs_types.specs.TypedGraph.{object_at, edge_at}
 use Rattle.hs_finding.specs.Candidates.{Ascend, IsLeastFrom, NoneFrom, IsFree, IsFreeEdge, MayBe, MayJoin}
@@ -66,13 +66,13 @@ pub some_and : {A : Type 0} (o : Option A) (P : A → Type 0) → IsSomeAnd o P 
 some_and None P h = absurd h
 some_and (Some a) P h = (a, refl, h)
 
-pub free_stands : (m : Meta) (g : Graph) (class : ℕ) (taken : List ℕ) (y : ℕ) → IsFree m g class taken y → Stands (λ object. object.number) (MayBe m class taken) g.objects y
+pub free_stands : (m : Metamodel) (g : Graph) (class : ℕ) (taken : List ℕ) (y : ℕ) → IsFree m g class taken y → Stands (λ object. object.number) (MayBe m class taken) g.objects y
 free_stands m g class taken y free =
     let found = some_and (object_at g y) (λ object. Conforms m object.class class) free.of_class in
     let at = find_place (λ (object : Object). object.number) g.objects y found.0 found.1 in
     record { place = at.0; item = found.0; at = at.1; same = at.2; passes = record { of_class = found.2; free = rw at.2 free.free } }
 
-pub free_here : (m : Meta) (g : Graph) (class : ℕ) (taken : List ℕ) (i : ℕ) (object : Object) → Ascend (λ object. object.number) g.objects → slice_get g.objects i ≡ Some object →
+pub free_here : (m : Metamodel) (g : Graph) (class : ℕ) (taken : List ℕ) (i : ℕ) (object : Object) → Ascend (λ object. object.number) g.objects → slice_get g.objects i ≡ Some object →
     MayBe m class taken object → IsFree m g class taken object.number
 free_here m g class taken i object up at may =
     let found : object_at g object.number ≡ Some object = find_here (λ (object : Object). object.number) g.objects i object up at in

@@ -10,7 +10,7 @@ use Rattle.hs_search.specs.Choice.{IsBelow, IsChoice, IsLeast, IsNone}
 use Rattle.hs_types.specs.declared.graph.Graph.{Graph}
 use Rattle.hs_types.specs.declared.matching.Extension.{Extension}
 use Rattle.hs_types.specs.declared.matching.Match.{Match}
-use Rattle.hs_types.specs.declared.meta.Meta.{Meta}
+use Rattle.hs_types.specs.declared.meta.Metamodel.{Metamodel}
 use Rattle.hs_types.specs.declared.rule.PatternNode.{PatternNode}
 use Rattle.hs_types.specs.declared.rule.Rule.{Rule}
 use Rattle.hs_types.specs.declared.rule.Shape.{Shape}
@@ -83,15 +83,15 @@ follow_none g (p ∷ ps) [] e = absurd (omega arith)
 follow_none g (p ∷ ps) (n ∷ ns) e = (tt, follow_none g ps ns (omega arith))
 
 -- the kernel's images are a plain match
-pub plain_of : (m : Meta) (g : Graph) (shape : Shape) (all : List ℕ) → AreImages (kernel m g shape) all → IsPlain m g shape (split (kernel m g shape) all)
+pub plain_of : (m : Metamodel) (g : Graph) (shape : Shape) (all : List ℕ) → AreImages (kernel m g shape) all → IsPlain m g shape (split (kernel m g shape) all)
 plain_of m g shape all i = record { nodes_fit = i.nodes_fit; edges_fit = i.edges_fit; nodes_differ = i.nodes_differ; edges_differ = i.edges_differ }
 
 -- a plain match is a choice
-pub choice_of : (m : Meta) (g : Graph) (shape : Shape) (x : Extension) → IsPlain m g shape x → IsChoice (length (left_nodes shape.nodes) + length (left_edges shape.edges)) (AreImages (kernel m g shape)) (x.nodes ++ x.edges)
+pub choice_of : (m : Metamodel) (g : Graph) (shape : Shape) (x : Extension) → IsPlain m g shape x → IsChoice (length (left_nodes shape.nodes) + length (left_edges shape.edges)) (AreImages (kernel m g shape)) (x.nodes ++ x.edges)
 choice_of m g shape x p = extension_choice (kernel m g shape) x (record { nodes_fit = p.nodes_fit; edges_fit = p.edges_fit; nodes_differ = p.nodes_differ; edges_differ = p.edges_differ })
 
 -- where a rule only adds, each plain match is valid
-pub valid_plain : (m : Meta) (g : Graph) (rule : Rule) (f : Match) → OnlyAdds rule → IsPlain m g rule.shape (kernel_of f) → f.copies ≡ [] → IsValid m g rule no_args f
+pub valid_plain : (m : Metamodel) (g : Graph) (rule : Rule) (f : Match) → OnlyAdds rule → IsPlain m g rule.shape (kernel_of f) → f.copies ≡ [] → IsValid m g rule no_args f
 valid_plain m g rule f adds plain none =
     let kept : dropped_nodes rule.shape (kernel_of f) ≡ [] =
     beside_none (λ (node : PatternNode). is_drop node.mark) (left_nodes rule.shape.nodes) f.nodes (All-filter (λ (node : PatternNode). is_left node.mark) (λ (node : PatternNode). is_drop node.mark ≡ false) rule.shape.nodes adds.keeps_nodes) in
@@ -110,7 +110,7 @@ valid_plain m g rule f adds plain none =
     }
 
 -- the least choice is the least valid match
-pub least_valid : (m : Meta) (g : Graph) (rule : Rule) (all : List ℕ) (f : Match) → OnlyAdds rule →
+pub least_valid : (m : Metamodel) (g : Graph) (rule : Rule) (all : List ℕ) (f : Match) → OnlyAdds rule →
     f ≡ record { nodes = take (length (left_nodes rule.shape.nodes)) all; edges = drop (length (left_nodes rule.shape.nodes)) all; copies = [] } →
     IsLeast (IsChoice (length (left_nodes rule.shape.nodes) + length (left_edges rule.shape.edges)) (AreImages (kernel m g rule.shape))) all → valid.IsLeast m g rule no_args f
 least_valid m g rule all f adds same l = rw same (record { valid = valid_plain m g rule _ adds plain refl; least = none_below })
@@ -128,7 +128,7 @@ least_valid m g rule all f adds same l = rw same (record { valid = valid_plain m
         let below : IsBelow (h.nodes ++ h.edges) (found.nodes ++ found.edges) = earlier_below (kernel_of h) (kernel_of found) (wh ∙ sym wf) earlier in
         l.least (h.nodes ++ h.edges) (choice_of m g rule.shape (kernel_of h) v.plain) (rw (take-append-drop (length (left_nodes rule.shape.nodes)) all) at below)
 
-pub none_valid : (m : Meta) (g : Graph) (rule : Rule) → IsNone (IsChoice (length (left_nodes rule.shape.nodes) + length (left_edges rule.shape.edges)) (AreImages (kernel m g rule.shape))) → NoneIsValid m g rule no_args
+pub none_valid : (m : Metamodel) (g : Graph) (rule : Rule) → IsNone (IsChoice (length (left_nodes rule.shape.nodes) + length (left_edges rule.shape.edges)) (AreImages (kernel m g rule.shape))) → NoneIsValid m g rule no_args
 none_valid m g rule none = λ f v. none (f.nodes ++ f.edges) (choice_of m g rule.shape (kernel_of f) v.plain)
 
 -- the same search under other names
@@ -139,7 +139,7 @@ pub none_as : (n k : ℕ) (s t : Sought) (o : Option (ArrayVec ℕ)) → n ≡ k
 none_as n k s t o size same l = rw (← size, ← same) l
 
 -- The images that were found, or not, are the answer to the search.
-pub answer_of : (m : Meta) (g : Graph) (rule : Rule) (o : Option (ArrayVec ℕ)) → OnlyAdds rule →
+pub answer_of : (m : Metamodel) (g : Graph) (rule : Rule) (o : Option (ArrayVec ℕ)) → OnlyAdds rule →
     IfSome o (λ found. IsLeast (IsChoice (length (left_nodes rule.shape.nodes) + length (left_edges rule.shape.edges)) (AreImages (kernel m g rule.shape))) found.items) →
     IfNone o (IsNone (IsChoice (length (left_nodes rule.shape.nodes) + length (left_edges rule.shape.edges)) (AreImages (kernel m g rule.shape)))) →
     (answer : Option Match) × IsFirst m g rule no_args answer × (is_some o ≡ is_some answer)

@@ -2,7 +2,7 @@ use Rattle.std.specs.Prelude.{ℕ, ◌<◌, ◌≤◌, ◌≡◌, List, false, O
 use Rattle.hs_types.specs.declared.graph.Edge.{Edge}
 use Rattle.hs_types.specs.declared.graph.Graph.{Graph}
 use Rattle.hs_types.specs.declared.graph.Object.{Object}
-use Rattle.hs_types.specs.declared.meta.Meta.{Meta}
+use Rattle.hs_types.specs.declared.meta.Metamodel.{Metamodel}
 use Rattle.hs_types.specs.Lists.{has}
 use Rattle.hs_types.specs.Metamodel.{Conforms}
 use Rattle.hs_types.specs.TypedGraph.{edge_at, IsOf}
@@ -26,12 +26,12 @@ abbrev pub Ascend : {A : Type 0} → (A → ℕ) → List A → Type 0
 Ascend {A} number items = (i j : ℕ) (a b : A) → slice_get items i ≡ Some a → slice_get items j ≡ Some b → i < j → number a < number b
 
 -- At n stands an object of the class, and it isn't taken.
-pub record IsFree (m : Meta) (g : Graph) (class : ℕ) (taken : List ℕ) (n : ℕ) : Type 0 where
+pub record IsFree (m : Metamodel) (g : Graph) (class : ℕ) (taken : List ℕ) (n : ℕ) : Type 0 where
   pub of_class : IsOf m g class n
   pub free : has taken n ≡ false
 
 -- The object is of the class, and isn't taken.
-pub record MayBe (m : Meta) (class : ℕ) (taken : List ℕ) (object : Object) : Type 0 where
+pub record MayBe (m : Metamodel) (class : ℕ) (taken : List ℕ) (object : Object) : Type 0 where
   pub of_class : Conforms m object.class class
   pub free : has taken object.number ≡ false
 

@@ -1,7 +1,7 @@
 use Rattle.std.specs.Prelude.{ℕ, ◌≡◌, ◌-◌, List, [], ◌∷◌, ◌++◌, length, take, drop, false, Option, Some, None, IsSomeAnd, slice_get}
 use Rattle.hs_types.specs.declared.graph.Graph.{Graph}
 use Rattle.hs_types.specs.declared.matching.Extension.{Extension}
-use Rattle.hs_types.specs.declared.meta.Meta.{Meta}
+use Rattle.hs_types.specs.declared.meta.Metamodel.{Metamodel}
 use Rattle.hs_types.specs.declared.rule.PatternEdge.{PatternEdge}
 use Rattle.hs_types.specs.declared.rule.PatternNode.{PatternNode}
 use Rattle.hs_types.specs.declared.rule.Shape.{Shape}
@@ -12,7 +12,7 @@ use Rattle.hs_finding.specs.Candidates.{IsFree}
 
 -- What an extension begins from, and what it goes on to.
 pub record Sought : Type 0 where
-  pub meta : Meta
+  pub meta : Metamodel
   pub graph : Graph
   pub base_nodes : List PatternNode
   pub base : Extension

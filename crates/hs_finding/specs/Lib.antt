@@ -1,5 +1,4 @@
 pub mod Candidates
-pub mod Conformance
 pub mod Distinct
 pub mod Extending
 pub mod FirstMatch

@@ -3,7 +3,6 @@ ghost use Rattle.hs_types.specs.Lists.{has};
 ghost use Rattle.hs_types.specs.TypedGraph.{object_at};
 ghost use Rattle.hs_finding.specs.Candidates.{Ascend, IsFree, IsFreeEdge, IsNext, MayBe, MayJoin};
 
-use crate::conforms;
 use crate::lookup::{find_object, first_from};
 use hs_types::{ClassNo, Edge, EdgeNo, FeatureNo, Graph, Meta, Object, ObjectNo};
 
@@ -39,7 +38,7 @@ fn may_be(
 ) -> bool
     ensures { IsTrue result ↔ MayBe meta.now class (base.now ++ taken.now) object.now }
 {
-    is_new(base, taken, object.number) && conforms(meta, object.class, class)
+    is_new(base, taken, object.number) && meta.conforms(object.class, class)
 }
 
 /// Whether the number is in neither list.
@@ -65,7 +64,7 @@ pub fn is_free(
         return false;
     }
     match find_object(graph, number) {
-        Some(object) => conforms(meta, object.class, class),
+        Some(object) => meta.conforms(object.class, class),
         None => false,
     }
 }

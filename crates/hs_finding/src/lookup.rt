@@ -2,7 +2,6 @@ ghost use Rattle.std.specs.Prelude.{◌≡◌, ◌≤◌, ◌<◌, ◌↔◌, �
 ghost use Rattle.hs_types.specs.TypedGraph.{object_at};
 ghost use Rattle.hs_finding.specs.Candidates.{Ascend, IsFree, IsNext};
 
-use crate::conforms;
 use hs_types::{ClassNo, Graph, Meta, Object, ObjectNo};
 
 /// The place of the first object whose number is `from` or above.

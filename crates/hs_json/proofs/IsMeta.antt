@@ -6,7 +6,7 @@ use Rattle.std.proofs.lemmas.List.Elements.{All-nil, All-cons, All-head, All-tai
 use Rattle.std.proofs.lemmas.List.FromFn.{length-range_with_len}
 use Rattle.serde_json.specs.Data.{Data}
 use Rattle.hs_types.specs.declared.meta.Class.{Class}
-use Rattle.hs_types.specs.declared.meta.Meta.{Meta}
+use Rattle.hs_types.specs.declared.meta.Metamodel.{Metamodel}
 use Rattle.hs_types.specs.Lists.{Differ, each_once, has, places_from}
 use Rattle.hs_types.specs.Limits.{IsSmallMeta}
 use Rattle.hs_types.specs.Metamodel.{HasSuper, IsMeta, class_at, StandBefore, features_of, is_attribute, owned_by}
@@ -39,7 +39,7 @@ tests classes e =
       references = right_true _ (list_all references_differ classes) e;
     }
 
-class-whole : (m : Meta) (c : ℕ) (o : Option Class) → o ≡ class_at m c → All (λ class. class.supers ≡ []) m.classes → IsSomeAnd o (λ class. class.features ≡ owned_by m c) →
+class-whole : (m : Metamodel) (c : ℕ) (o : Option Class) → o ≡ class_at m c → All (λ class. class.supers ≡ []) m.classes → IsSomeAnd o (λ class. class.features ≡ owned_by m c) →
     IsSomeAnd o (λ class. class.features ≡ each_once (flat_map (features_of m) class.supers) ++ owned_by m c)
 class-whole m c o e plain h =
     let found = item_at (λ (class : Class). class.features ≡ owned_by m c) o h in
@@ -47,7 +47,7 @@ class-whole m c o e plain h =
     subst (λ (o : Option Class). IsSomeAnd o (λ class. class.features ≡ each_once (flat_map (features_of m) class.supers) ++ owned_by m c)) (sym found.1)
     (found.2 ∙ ap (λ ss. each_once (flat_map (features_of m) ss) ++ owned_by m c) (sym none))
 
-no-super : (m : Meta) → All (λ class. class.supers ≡ []) m.classes → (c d : ℕ) → HasSuper m c d → ⊥
+no-super : (m : Metamodel) → All (λ class. class.supers ≡ []) m.classes → (c d : ℕ) → HasSuper m c d → ⊥
 no-super m plain c d h =
     let found = item_at (λ (class : Class). has class.supers d ≡ true) (class_at m c) h in
     let none = All-at (λ (class : Class). class.supers ≡ []) m.classes c found.0 plain found.1 in
@@ -75,7 +75,7 @@ meant-is_meta classes e =
       features_differ = differ-classes names (features_from names 0 classes) 0 0 classes [] refl refl t.references;
     }
 
-pub meta-is_meta : (d : Data) (m : Meta) → meta_of d ≡ Some m → IsMeta m
+pub meta-is_meta : (d : Data) (m : Metamodel) → meta_of d ≡ Some m → IsMeta m
 meta-is_meta d m e = let parts = meta_parts d m e in subst IsMeta parts.2 (meant-is_meta parts.0 parts.1)
 
 range-apart : (a n k : ℕ) → a < n → All (λ m. a ≡ m → ⊥) (range_with_len n k)
@@ -98,7 +98,7 @@ meant-is_flat classes = record {
   differ = classes-differ 0 classes;
 }
 
-pub meta-is_flat : (d : Data) (m : Meta) → meta_of d ≡ Some m → IsFlat m
+pub meta-is_flat : (d : Data) (m : Metamodel) → meta_of d ≡ Some m → IsFlat m
 meta-is_flat d m e = let parts = meta_parts d m e in subst IsFlat parts.2 (meant-is_flat parts.0)
 
 classes-small : (first : ℕ) (classes : List WrittenClass) → All (λ class. length class.references ≤ 64) classes → All (λ class. length class.features ≤ 64) (classes_from first classes)
@@ -115,5 +115,5 @@ meant-is_small classes e = record {
   features = classes-small 0 classes (meta_small classes e);
 }
 
-pub meta-is_small : (d : Data) (m : Meta) → meta_of d ≡ Some m → IsSmallMeta m
+pub meta-is_small : (d : Data) (m : Metamodel) → meta_of d ≡ Some m → IsSmallMeta m
 meta-is_small d m e = let parts = meta_parts d m e in subst IsSmallMeta parts.2 (meant-is_small parts.0 parts.1)

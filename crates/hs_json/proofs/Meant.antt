@@ -1,5 +1,5 @@
 -- What the tests of written classes and objects say of sizes.
-use Rattle.std.proofs.Common.{◌≡◌, ◌≤◌, ◌+◌, ℕ, suc, List, [], ◌∷◌, true, leb, length, refl, ap}
+use Rattle.std.proofs.Common.{◌≡◌, ◌≤◌, ◌+◌, ℕ, suc, List, [], ◌∷◌, true, leb, length, nat_lt, refl, ap}
 use Rattle.std.proofs.lemmas.Bool.{leb-true}
 use Rattle.std.proofs.lemmas.List.Sums.{AllPass-from_list_all}
 use Rattle.std.specs.List.{All, list_all, slice_index_or}
@@ -23,4 +23,11 @@ pub length-classes : (first : ℕ) (classes : List WrittenClass) → length (cla
 length-classes first [] = refl
 length-classes first (class ∷ classes) = ap suc (length-classes (first + length class.references) classes)
 
-pub ruleset sizes = (meta_few, meta_small, length-classes)
+none_missing : (n first : ℕ) (classes : List WrittenClass) → list_all (λ class. list_all (λ d. nat_lt d n) class.supers) (classes_from first classes) ≡ true
+none_missing n first [] = refl
+none_missing n first (class ∷ classes) = none_missing n (first + length class.references) classes
+
+pub supers_stand : (classes : List WrittenClass) (n : ℕ) → list_all (λ class. list_all (λ d. nat_lt d n) class.supers) (classes_from 0 classes) ≡ true
+supers_stand classes n = none_missing n 0 classes
+
+pub ruleset sizes = (meta_few, meta_small, length-classes, supers_stand)

@@ -7,7 +7,7 @@ use Rattle.std.proofs.lemmas.Option.{same_Some, get_or_from_slice_get, slice_get
 use Rattle.std.proofs.lemmas.Slice.Eq.{bytes_eq-Decides}
 use Rattle.serde_json.specs.Data.{Data}
 use Rattle.hs_types.specs.declared.meta.Class.{Class}
-use Rattle.hs_types.specs.declared.meta.Meta.{Meta}
+use Rattle.hs_types.specs.declared.meta.Metamodel.{Metamodel}
 use Rattle.hs_types.specs.Lists.{Differ, same_text}
 use Rattle.hs_types.specs.Metamodel.{FeatureFits, is_attribute}
 use Rattle.hs_json.specs.declared.written.WrittenClass.{WrittenClass}
@@ -78,7 +78,7 @@ feature-sound classes owner r stands fits = (within, bounded r.upper fits) where
 -- ---- what is read
 
 -- What holds of each metamodel that is read.
-pub record IsPlain (m : Meta) : Type 0 where
+pub record IsPlain (m : Metamodel) : Type 0 where
   pub format : m.format ≡ 1
   pub concrete : All (λ class. class.is_abstract ≡ false) m.classes
   pub no_supers : All (λ class. class.supers ≡ []) m.classes
@@ -87,11 +87,11 @@ meant-plain : (classes : List WrittenClass) → IsPlain (meant_meta classes)
 unfolding meant_meta
 meant-plain classes = record { format = refl; concrete = λ k d h. (classes-plain 0 classes k d h).0; no_supers = λ k d h. (classes-plain 0 classes k d h).1 }
 
-pub meta-plain : (d : Data) (m : Meta) → meta_of d ≡ Some m → IsPlain m
+pub meta-plain : (d : Data) (m : Metamodel) → meta_of d ≡ Some m → IsPlain m
 meta-plain d m e = let parts = meta_parts d m e in subst IsPlain parts.2 (meant-plain parts.0)
 
 -- What a graph's metamodel has where classes are concrete and own references alone.
-pub record IsFlat (m : Meta) : Type 0 where
+pub record IsFlat (m : Metamodel) : Type 0 where
   pub concrete : All (λ class. class.is_abstract ≡ false) m.classes
   pub references : All (λ feature. is_attribute feature ≡ false) m.features
   pub differ : All (λ class. Differ class.features) m.classes

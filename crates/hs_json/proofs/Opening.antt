@@ -13,7 +13,7 @@ use Rattle.hs_types.specs.declared.graph.Graph.{Graph}
 use Rattle.hs_types.specs.declared.graph.Object.{Object}
 use Rattle.hs_types.specs.declared.meta.Class.{Class}
 use Rattle.hs_types.specs.declared.meta.Feature.{Feature}
-use Rattle.hs_types.specs.declared.meta.Meta.{Meta}
+use Rattle.hs_types.specs.declared.meta.Metamodel.{Metamodel}
 use Rattle.hs_types.specs.Lists.{Differ, EachPair, Rise, has, same_text}
 use Rattle.hs_types.specs.Metamodel.{Conforms, itself, IsConcrete, class_at, feature_at, features_of, is_attribute, target_of, type_of}
 use Rattle.hs_types.specs.TypedGraph.{AreSlotsOf, CanJoin, HasFeature, IsOf, IsOpening, Stands, hash_name, object_at}
@@ -30,7 +30,7 @@ use Rattle.hs_json.proofs.Parts.{graph_parts}
 
 -- ---- objects
 
-found_at : (m : Meta) (n k c : ℕ) (ws : List WrittenObject) (w : WrittenObject) → slice_get ws k ≡ Some w → c ≡ n + k →
+found_at : (m : Metamodel) (n k c : ℕ) (ws : List WrittenObject) (w : WrittenObject) → slice_get ws k ≡ Some w → c ≡ n + k →
     find (λ (o : Object). eqb o.number c) (objects_from m n ws) ≡ Some (record { number = c; name = w.name; class = class_of m w; slots = [] })
 found_at m n k c [] w e h = absurd (none-some w e)
 found_at m n zero c (v ∷ vs) w e h =
@@ -40,11 +40,11 @@ found_at m n zero c (v ∷ vs) w e h =
 found_at m n (suc k) c (v ∷ vs) w e h =
     rw (ne_eqb n c (λ same. absurd (omega arith))) (found_at m (n + 1) k c vs w e (omega arith))
 
-numbers-objects : (m : Meta) (n : ℕ) (ws : List WrittenObject) → map (λ (o : Object). o.number) (objects_from m n ws) ≡ range_with_len n (length ws)
+numbers-objects : (m : Metamodel) (n : ℕ) (ws : List WrittenObject) → map (λ (o : Object). o.number) (objects_from m n ws) ≡ range_with_len n (length ws)
 numbers-objects m n [] = refl
 numbers-objects m n (w ∷ ws) = ap (λ ns. n ∷ ns) (numbers-objects m (n + 1) ws)
 
-names-objects : (m : Meta) (n : ℕ) (ws : List WrittenObject) → map (λ (o : Object). o.name) (objects_from m n ws) ≡ object_names ws
+names-objects : (m : Metamodel) (n : ℕ) (ws : List WrittenObject) → map (λ (o : Object). o.name) (objects_from m n ws) ≡ object_names ws
 names-objects m n [] = refl
 names-objects m n (w ∷ ws) = ap (λ ns. w.name ∷ ns) (names-objects m (n + 1) ws)
 
@@ -57,14 +57,14 @@ hash-first zero = refl
 hash-first (suc k) = refl
 
 -- What each object is, by what is written.
-named-objects : (m : Meta) (n : ℕ) (ws : List WrittenObject) → list_all (λ w. is_object_name w.name) ws ≡ true → All (λ o. (k : ℕ) → o.name ≡ hash_name k → k < 0) (objects_from m n ws)
+named-objects : (m : Metamodel) (n : ℕ) (ws : List WrittenObject) → list_all (λ w. is_object_name w.name) ws ≡ true → All (λ o. (k : ℕ) → o.name ≡ hash_name k → k < 0) (objects_from m n ws)
 named-objects m n [] e = All-nil (λ o. (k : ℕ) → o.name ≡ hash_name k → k < 0)
 named-objects m n (w ∷ ws) e =
     All-cons (λ (o : Object). (k : ℕ) → o.name ≡ hash_name k → k < 0) _ (objects_from m (n + 1) ws)
     (λ k same. absurd (both_ways (is_object_name w.name) (ap is_object_name same ∙ hash-first k) (left_true (is_object_name w.name) (list_all (λ w. is_object_name w.name) ws) e)))
     (named-objects m (n + 1) ws (right_true (is_object_name w.name) (list_all (λ w. is_object_name w.name) ws) e))
 
-no-attributes : (m : Meta) → All (λ feature. is_attribute feature ≡ false) m.features → (f : ℕ) → is_some (type_of m f) ≡ false
+no-attributes : (m : Metamodel) → All (λ feature. is_attribute feature ≡ false) m.features → (f : ℕ) → is_some (type_of m f) ≡ false
 no-attributes m a f = go (feature_at m f) refl where
   go : (o : Option Feature) → feature_at m f ≡ o → is_some (type_of m f) ≡ false
   go None e = rw e refl
@@ -75,7 +75,7 @@ none-kept t [] h = refl
 none-kept t (n ∷ ns) h = rw (h n) (none-kept t ns h)
 
 -- The class of an object that stands is a class.
-class-there : (m : Meta) → All (λ class. class.is_abstract ≡ false) m.classes → (o : Option ℕ) → is_some o ≡ true → ((c : ℕ) → o ≡ Some c → c < length m.classes) → IsConcrete m (unwrap_or o 0)
+class-there : (m : Metamodel) → All (λ class. class.is_abstract ≡ false) m.classes → (o : Option ℕ) → is_some o ≡ true → ((c : ℕ) → o ≡ Some c → c < length m.classes) → IsConcrete m (unwrap_or o 0)
 class-there m a None e h = absurd (false≢true e)
 class-there m a (Some c) e h = subst (λ (o : Option Class). IsSomeAnd o (λ class. class.is_abstract ≡ false)) (sym (at m.classes c (h c refl)).1) (All-at (λ (class : Class). class.is_abstract ≡ false) m.classes c (at m.classes c (h c refl)).0 a (at m.classes c (h c refl)).1) where
   at : (cs : List Class) (c : ℕ) → c < length cs → (class : Class) × (slice_get cs c ≡ Some class)
@@ -86,14 +86,14 @@ class-there m a (Some c) e h = subst (λ (o : Option Class). IsSomeAnd o (λ cla
 place-below : (names : List (List ℕ)) (name : List ℕ) (c : ℕ) → place_of names name ≡ Some c → c < length names
 place-below names name c e = (position-Some (same_text name) names c [] e).0
 
-class-concrete : (m : Meta) (w : WrittenObject) → IsFlat m → class_stands m w ≡ true → IsConcrete m (class_of m w)
+class-concrete : (m : Metamodel) (w : WrittenObject) → IsFlat m → class_stands m w ≡ true → IsConcrete m (class_of m w)
 class-concrete m w flat e = class-there m flat.concrete (class_named m w.class) e
     (λ c f. let below = place-below (map (λ (class : Class). class.name) m.classes) w.class c f in omega (arith, length-mapped (λ (class : Class). class.name) m.classes))
 
-slots-fit : (m : Meta) (class : ℕ) → IsFlat m → IsConcrete m class → AreSlotsOf m class []
+slots-fit : (m : Metamodel) (class : ℕ) → IsFlat m → IsConcrete m class → AreSlotsOf m class []
 slots-fit m class flat h = (h, sym (none-kept (λ f. is_some (type_of m f)) (features_of m class) (no-attributes m flat.references)), All-nil (λ slot. _))
 
-objects-fit : (m : Meta) (n : ℕ) (ws : List WrittenObject) → IsFlat m → list_all (class_stands m) ws ≡ true → All (λ (o : Object). AreSlotsOf m o.class o.slots) (objects_from m n ws)
+objects-fit : (m : Metamodel) (n : ℕ) (ws : List WrittenObject) → IsFlat m → list_all (class_stands m) ws ≡ true → All (λ (o : Object). AreSlotsOf m o.class o.slots) (objects_from m n ws)
 objects-fit m n [] flat e = All-nil (λ o. AreSlotsOf m o.class o.slots)
 objects-fit m n (w ∷ ws) flat e =
     All-cons (λ (o : Object). AreSlotsOf m o.class o.slots) _ (objects_from m (n + 1) ws)
@@ -103,10 +103,10 @@ objects-fit m n (w ∷ ws) flat e =
 -- ---- what stands in the graph
 
 -- The objects of the graph are these.
-abbrev HasObjects : Meta → List WrittenObject → Graph → Type 0
+abbrev HasObjects : Metamodel → List WrittenObject → Graph → Type 0
 HasObjects m ws g = g.objects ≡ objects_from m 0 ws
 
-stands : (m : Meta) (ws : List WrittenObject) (g : Graph) (P : ℕ → Type 0) (n : ℕ) (w : WrittenObject) → HasObjects m ws g → slice_get ws n ≡ Some w → P (class_of m w) → Stands g P n
+stands : (m : Metamodel) (ws : List WrittenObject) (g : Graph) (P : ℕ → Type 0) (n : ℕ) (w : WrittenObject) → HasObjects m ws g → slice_get ws n ≡ Some w → P (class_of m w) → Stands g P n
 stands m ws g P n w is e p =
     let found : object_at g n ≡ Some (record { number = n; name = w.name; class = class_of m w; slots = [] }) =
     ap (λ os. find (λ (o : Object). eqb o.number n) os) is ∙ found_at m 0 n n ws w e (omega arith) in
@@ -114,14 +114,14 @@ stands m ws g P n w is e p =
 
 -- ---- edges join what they can join
 
-abbrev Joins : Meta → Graph → Link → Type 0
+abbrev Joins : Metamodel → Graph → Link → Type 0
 Joins m g link = CanJoin m g link.source link.reference link.target
 
 leads : (class : ℕ) (o : Option ℕ) → unwrap_or (option_map (eqb class) o) false ≡ true → o ≡ Some class
 leads class None e = absurd (false≢true e)
 leads class (Some target) e = ap Some (sym (eqb-true class target e))
 
-target-joins : (m : Meta) (ws : List WrittenObject) (g : Graph) (f : ℕ) (name : List ℕ) → HasObjects m ws g → target_fits m (object_names ws) (map (class_of m) ws) f name ≡ true →
+target-joins : (m : Metamodel) (ws : List WrittenObject) (g : Graph) (f : ℕ) (name : List ℕ) → HasObjects m ws g → target_fits m (object_names ws) (map (class_of m) ws) f name ≡ true →
     IsSomeAnd (target_of m f) (λ class. IsOf m g class (unwrap_or (place_of (object_names ws) name) 0))
 target-joins m ws g f name is e = placed (place_of (object_names ws) name) e where
   of-class : (j : ℕ) (o : Option WrittenObject) → slice_get ws j ≡ o → unwrap_or (option_map (leads_to m f) (option_map (class_of m) o)) false ≡ true → IsSomeAnd (target_of m f) (λ class. IsOf m g class j)
@@ -132,7 +132,7 @@ target-joins m ws g f name is e = placed (place_of (object_names ws) name) e whe
   placed None e = absurd (false≢true e)
   placed (Some j) e = of-class j (slice_get ws j) refl (ap (λ o. unwrap_or (option_map (leads_to m f) o) false) (sym (slice_get-map (class_of m) ws j)) ∙ e)
 
-joins-targets : (m : Meta) (ws : List WrittenObject) (g : Graph) (n f : ℕ) (ts : List (List ℕ)) → HasObjects m ws g → HasFeature m g f n → list_all (target_fits m (object_names ws) (map (class_of m) ws) f) ts ≡ true →
+joins-targets : (m : Metamodel) (ws : List WrittenObject) (g : Graph) (n f : ℕ) (ts : List (List ℕ)) → HasObjects m ws g → HasFeature m g f n → list_all (target_fits m (object_names ws) (map (class_of m) ws) f) ts ≡ true →
     All (Joins m g) (map (link_of (object_names ws) n f) ts)
 joins-targets m ws g n f [] is has e = All-nil (Joins m g)
 joins-targets m ws g n f (t ∷ ts) is has e =
@@ -141,7 +141,7 @@ joins-targets m ws g n f (t ∷ ts) is has e =
     (has, target-joins m ws g f t is (left_true (fits t) (list_all fits ts) e))
     (joins-targets m ws g n f ts is has (right_true (fits t) (list_all fits ts) e))
 
-joins-features : (m : Meta) (ws : List WrittenObject) (g : Graph) (n : ℕ) (refs : List WrittenTargets) (fs : List ℕ) → HasObjects m ws g → ((f : ℕ) → has fs f ≡ true → HasFeature m g f n) →
+joins-features : (m : Metamodel) (ws : List WrittenObject) (g : Graph) (n : ℕ) (refs : List WrittenTargets) (fs : List ℕ) → HasObjects m ws g → ((f : ℕ) → has fs f ≡ true → HasFeature m g f n) →
     list_all (λ f. list_all (target_fits m (object_names ws) (map (class_of m) ws) f) (targets_at m refs f)) fs ≡ true →
     All (Joins m g) (flat_map (λ f. map (link_of (object_names ws) n f) (targets_at m refs f)) fs)
 joins-features m ws g n refs [] is h e = All-nil (Joins m g)
@@ -156,7 +156,7 @@ joins-features m ws g n refs (f ∷ fs) is h e =
       later-has : (k f : ℕ) (fs : List ℕ) → has fs k ≡ true → has (f ∷ fs) k ≡ true
       later-has k f fs t = ap (λ b. eqb k f || b) t ∙ or_true (eqb k f)
 
-joins-links : (m : Meta) (ws : List WrittenObject) (g : Graph) (n : ℕ) (vs : List WrittenObject) → HasObjects m ws g → ((k : ℕ) (v : WrittenObject) → slice_get vs k ≡ Some v → slice_get ws (n + k) ≡ Some v) →
+joins-links : (m : Metamodel) (ws : List WrittenObject) (g : Graph) (n : ℕ) (vs : List WrittenObject) → HasObjects m ws g → ((k : ℕ) (v : WrittenObject) → slice_get vs k ≡ Some v → slice_get ws (n + k) ≡ Some v) →
     list_all (λ (v : WrittenObject). targets_fit m (object_names ws) (map (class_of m) ws) (class_of m v) v.refs) vs ≡ true →
     All (Joins m g) (links_from m (object_names ws) n vs)
 joins-links m ws g n [] is at e = All-nil (Joins m g)
@@ -180,7 +180,7 @@ numbers-edges n (l ∷ ls) = ap (λ ns. n ∷ ns) (numbers-edges (n + 1) ls)
 -- ---- the order of edges
 
 -- The source comes before, or it is the same and the reference comes no later in its class.
-abbrev Before : Meta → Graph → ℕ → ℕ → ℕ → ℕ → Type 0
+abbrev Before : Metamodel → Graph → ℕ → ℕ → ℕ → ℕ → Type 0
 Before m g s f t k = (s < t) ⊎ ((s ≡ t) × Stands g (λ c. position_or_len (eqb f) (features_of m c) ≤ position_or_len (eqb k) (features_of m c)) s)
 
 EachPair-append : {A : Type 0} (R : A → A → Type 0) (xs ys : List A) → EachPair R xs → EachPair R ys → All (λ x. All (R x) ys) xs → EachPair R (xs ++ ys)
@@ -221,7 +221,7 @@ late-links all names n ts pre (f ∷ fs) e d =
     (λ l h. record { source = h.source; late = omega (arith, h.late, length-append pre (f ∷ [])) })
     (late-links all names n ts (pre ++ f ∷ []) fs (e ∙ sym (append_assoc pre (f ∷ []) fs)) d))
 
-abbrev LinkBefore : Meta → Graph → Link → Link → Type 0
+abbrev LinkBefore : Metamodel → Graph → Link → Link → Type 0
 LinkBefore m g l k = Before m g l.source l.reference k.source k.reference
 
 pairs-all : {A : Type 0} (R : A → A → Type 0) (P Q : A → Type 0) → ((x y : A) → P x → Q y → R x y) → (xs ys : List A) → All P xs → All Q ys → All (λ x. All (R x) ys) xs
@@ -232,7 +232,7 @@ pairs-same R P h [] a = tt
 pairs-same R P h (x ∷ xs) a = (All-weaker P (R x) (λ y q. h x y (All-head P x xs a) q) xs (All-tail P x xs a), pairs-same R P h xs (All-tail P x xs a))
 
 -- Within one object: reference by reference.
-order-object : (m : Meta) (g : Graph) (names : List (List ℕ)) (n class : ℕ) (ts : ℕ → List (List ℕ)) → ((P : ℕ → Type 0) → P class → Stands g P n) → (pre fs : List ℕ) → features_of m class ≡ pre ++ fs → Differ (features_of m class) →
+order-object : (m : Metamodel) (g : Graph) (names : List (List ℕ)) (n class : ℕ) (ts : ℕ → List (List ℕ)) → ((P : ℕ → Type 0) → P class → Stands g P n) → (pre fs : List ℕ) → features_of m class ≡ pre ++ fs → Differ (features_of m class) →
     EachPair (LinkBefore m g) (flat_map (λ f. map (link_of names n f) (ts f)) fs)
 order-object m g names n class ts at pre [] e d = tt
 order-object m g names n class ts at pre (f ∷ fs) e d =
@@ -255,27 +255,27 @@ order-object m g names n class ts at pre (f ∷ fs) e d =
     (λ l k p q. before l k p.0 q.source (let same = ap (λ i. position_or_len (eqb i) all) p.1 in omega (arith, same, here, q.late, length-append pre (f ∷ []))))
     (map (link_of names n f) (ts f)) rest (chunk names n f (ts f)) later)
 
-sources-object : (m : Meta) (names : List (List ℕ)) (n : ℕ) (ts : ℕ → List (List ℕ)) (fs : List ℕ) → All (λ (l : Link). l.source ≡ n) (flat_map (λ f. map (link_of names n f) (ts f)) fs)
+sources-object : (m : Metamodel) (names : List (List ℕ)) (n : ℕ) (ts : ℕ → List (List ℕ)) (fs : List ℕ) → All (λ (l : Link). l.source ≡ n) (flat_map (λ f. map (link_of names n f) (ts f)) fs)
 sources-object m names n ts [] = All-nil (λ l. l.source ≡ n)
 sources-object m names n ts (f ∷ fs) =
     All-append (λ (l : Link). l.source ≡ n) (map (link_of names n f) (ts f)) (flat_map (λ f. map (link_of names n f) (ts f)) fs)
     (weaker (λ (l : Link). (l.source ≡ n) × (l.reference ≡ f)) (λ l. l.source ≡ n) (map (link_of names n f) (ts f)) (λ l h. h.0) (chunk names n f (ts f)))
     (sources-object m names n ts fs)
 
-sources-from : (m : Meta) (names : List (List ℕ)) (n : ℕ) (vs : List WrittenObject) → All (λ (l : Link). n ≤ l.source) (links_from m names n vs)
+sources-from : (m : Metamodel) (names : List (List ℕ)) (n : ℕ) (vs : List WrittenObject) → All (λ (l : Link). n ≤ l.source) (links_from m names n vs)
 sources-from m names n [] = All-nil (λ l. n ≤ l.source)
 sources-from m names n (v ∷ vs) =
     All-append (λ (l : Link). n ≤ l.source) (links_of m names n (class_of m v) v.refs) (links_from m names (n + 1) vs)
     (weaker (λ (l : Link). l.source ≡ n) (λ l. n ≤ l.source) (links_of m names n (class_of m v) v.refs) (λ l h. omega (arith, h)) (sources-object m names n (targets_at m v.refs) (features_of m (class_of m v))))
     (weaker (λ (l : Link). n + 1 ≤ l.source) (λ l. n ≤ l.source) (links_from m names (n + 1) vs) (λ l h. omega (arith, h)) (sources-from m names (n + 1) vs))
 
-features-differ : (m : Meta) (class : ℕ) → All (λ class. Differ class.features) m.classes → Differ (features_of m class)
+features-differ : (m : Metamodel) (class : ℕ) → All (λ class. Differ class.features) m.classes → Differ (features_of m class)
 features-differ m class a = go (class_at m class) refl where
   go : (o : Option Class) → class_at m class ≡ o → Differ (features_of m class)
   go None e = rw e tt
   go (Some found) e = rw e (All-at (λ (class : Class). Differ class.features) m.classes class found a e)
 
-order-links : (m : Meta) (ws : List WrittenObject) (g : Graph) (n : ℕ) (vs : List WrittenObject) → IsFlat m → HasObjects m ws g → ((k : ℕ) (v : WrittenObject) → slice_get vs k ≡ Some v → slice_get ws (n + k) ≡ Some v) →
+order-links : (m : Metamodel) (ws : List WrittenObject) (g : Graph) (n : ℕ) (vs : List WrittenObject) → IsFlat m → HasObjects m ws g → ((k : ℕ) (v : WrittenObject) → slice_get vs k ≡ Some v → slice_get ws (n + k) ≡ Some v) →
     EachPair (LinkBefore m g) (links_from m (object_names ws) n vs)
 order-links m ws g n [] flat is at = tt
 order-links m ws g n (v ∷ vs) flat is at =
@@ -294,7 +294,7 @@ edges-pairs R n (l ∷ ls) a = (edges-all (λ s f t. R l.source l.reference s f)
 
 -- ---- the graph
 
-meant-opening : (m : Meta) (ws : List WrittenObject) → IsFlat m → list_all (λ w. is_object_name w.name) ws ≡ true → differ (object_names ws) ≡ true → list_all (class_stands m) ws ≡ true →
+meant-opening : (m : Metamodel) (ws : List WrittenObject) → IsFlat m → list_all (λ w. is_object_name w.name) ws ≡ true → differ (object_names ws) ≡ true → list_all (class_stands m) ws ≡ true →
     list_all (λ (w : WrittenObject). targets_fit m (object_names ws) (map (class_of m) ws) (class_of m w) w.refs) ws ≡ true → IsOpening m (meant_graph m ws)
 unfolding meant_graph
 meant-opening m ws flat named apart classes targets =
@@ -318,7 +318,7 @@ meant-opening m ws flat named apart classes targets =
       next_name = λ k e. absurd (omega (arith, e));
     }
 
-pub graph-is_opening : (m : Meta) (d : Data) (g : Graph) → IsFlat m → graph_of m d ≡ Some g → IsOpening m g
+pub graph-is_opening : (m : Metamodel) (d : Data) (g : Graph) → IsFlat m → graph_of m d ≡ Some g → IsOpening m g
 graph-is_opening m d g flat e =
     let parts = graph_parts m d g e in
     subst (IsOpening m) parts.is (meant-opening m parts.objects flat parts.named parts.apart parts.classes parts.targets)

@@ -8,7 +8,7 @@ use Rattle.serde_json.specs.Data.{Data}
 use Rattle.serde_json.specs.Find.{get, as_array, as_str}
 use Rattle.serde_json.specs.Read.{read}
 use Rattle.hs_types.specs.declared.graph.Graph.{Graph}
-use Rattle.hs_types.specs.declared.meta.Meta.{Meta}
+use Rattle.hs_types.specs.declared.meta.Metamodel.{Metamodel}
 use Rattle.hs_types.specs.declared.request.Request.{Request}
 use Rattle.hs_types.specs.Lists.{map_all}
 use Rattle.hs_json.specs.declared.written.WrittenClass.{WrittenClass}
@@ -32,7 +32,7 @@ demanded true u e = refl
 demanded false u e = absurd (none-some u e)
 
 -- A metamodel is that of written classes which mean one.
-pub meta_parts : (d : Data) (m : Meta) → meta.meta_of d ≡ Some m → (classes : List WrittenClass) × (meta.is_meant classes ≡ true) × (meta.meant_meta classes ≡ m)
+pub meta_parts : (d : Data) (m : Metamodel) → meta.meta_of d ≡ Some m → (classes : List WrittenClass) × (meta.is_meant classes ≡ true) × (meta.meant_meta classes ≡ m)
 unfolding meta.meta_of
 meta_parts d m e =
     let a = steps _ (written_classes d) m e in
@@ -40,7 +40,7 @@ meta_parts d m e =
     (a.0, demanded (meta.is_meant a.0) b.0 b.1, same_Some _ m b.2)
 
 -- What is asked of the objects of a graph, with the graph that they mean.
-pub record Meant (m : Meta) (g : Graph) : Type 0 where
+pub record Meant (m : Metamodel) (g : Graph) : Type 0 where
   pub objects : List WrittenObject
   pub few : nat_le (length objects) 200000 ≡ true
   pub named : list_all (λ object. is_object_name object.name) objects ≡ true
@@ -50,7 +50,7 @@ pub record Meant (m : Meta) (g : Graph) : Type 0 where
   pub joined : nat_le (length (graph.all_links m objects)) 400000 ≡ true
   pub is : graph.meant_graph m objects ≡ g
 
-pub graph_parts : (m : Meta) (d : Data) (g : Graph) → graph.graph_of m d ≡ Some g → Meant m g
+pub graph_parts : (m : Metamodel) (d : Data) (g : Graph) → graph.graph_of m d ≡ Some g → Meant m g
 unfolding graph.graph_of graph.graph_meant
 graph_parts m d g e =
     let a = steps _ (written_objects d) g e in

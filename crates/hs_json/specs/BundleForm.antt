@@ -5,7 +5,7 @@ use Rattle.serde_json.specs.Data.{Data}
 use Rattle.serde_json.specs.Find.{get, as_str}
 use Rattle.serde_json.specs.Read.{read}
 use Rattle.hs_types.specs.declared.graph.Graph.{Graph}
-use Rattle.hs_types.specs.declared.meta.Meta.{Meta}
+use Rattle.hs_types.specs.declared.meta.Metamodel.{Metamodel}
 use Rattle.hs_types.specs.declared.request.Request.{Request}
 use Rattle.hs_json.specs.declared.bundle.Bundle.{Bundle}
 use Rattle.hs_json.specs.Form.{◌>>=◌, keys_among}
@@ -15,7 +15,7 @@ use Rattle.hs_json.specs.SessionForm.{sessions_of}
 
 -- What a bundle holds.
 pub record Contents : Type 0 where
-  pub meta : Meta
+  pub meta : Metamodel
   pub graph : Graph
   pub text : List ℕ
   pub sessions : List (List Request)

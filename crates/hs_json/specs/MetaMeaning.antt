@@ -5,7 +5,7 @@ use Rattle.serde_json.specs.Data.{Data}
 use Rattle.hs_types.specs.declared.meta.Class.{Class}
 use Rattle.hs_types.specs.declared.meta.Feature.{Feature}
 use Rattle.hs_types.specs.declared.meta.FeatureKind.TheVariants.{Reference}
-use Rattle.hs_types.specs.declared.meta.Meta.{Meta}
+use Rattle.hs_types.specs.declared.meta.Metamodel.{Metamodel}
 use Rattle.hs_types.specs.Lists.{same_text}
 use Rattle.hs_json.specs.declared.written.WrittenClass.{WrittenClass}
 use Rattle.hs_json.specs.declared.written.WrittenReference.{WrittenReference}
@@ -63,11 +63,11 @@ classes_from first [] = []
 classes_from first (class ∷ classes) = record { name = class.name; is_abstract = false; supers = []; features = range_with_len first (length class.references) } ∷ classes_from (first + length class.references) classes
 
 -- Classes and features are numbered in written order, and names are resolved.
-unfoldable pub meant_meta : List WrittenClass → Meta
+unfoldable pub meant_meta : List WrittenClass → Metamodel
 meant_meta classes = record { format = 1; classes = classes_from 0 classes; features = features_from (class_names classes) 0 classes }
 
 -- The metamodel that a value is.
-unfoldable pub meta_of : Data → Option Meta
+unfoldable pub meta_of : Data → Option Metamodel
 meta_of d = do
   classes ← written_classes d
   meant ← demand (is_meant classes)

@@ -3,7 +3,7 @@
 ghost use Rattle.std.specs.Prelude.{◌≡◌, ◌≤◌, ℕ, map, length, true, false, IfOk, OnOk, nat_le};
 ghost use Rattle.std.specs.List.{list_all};
 ghost use Rattle.serde_json.specs.View.{view};
-ghost use Rattle.hs_types.specs.declared.meta.Meta.{Meta};
+ghost use Rattle.hs_types.specs.declared.meta.Metamodel.{Metamodel};
 ghost use Rattle.hs_json.specs.Answer.{Gives};
 ghost use Rattle.hs_json.specs.GraphMeaning as spec;
 ghost use Rattle.hs_json.specs.Names.{is_object_name as named};
@@ -73,7 +73,7 @@ fn numbered_objects(
 ) -> Result<List<Object>, AllocError>
     requires few { length objects.now ≤ 200000 }
     requires resolved { length classes.now ≡ length objects.now }
-    ensures { (m : Meta) → classes.now ≡ map (spec.class_of m) objects.now → IfOk result (λ made. made ≡ spec.objects_from m 0 objects.now) }
+    ensures { (m : Metamodel) → classes.now ≡ map (spec.class_of m) objects.now → IfOk result (λ made. made ≡ spec.objects_from m 0 objects.now) }
 {
     let mut made = List::new(alloc);
     for (i, object) in objects.iter().enumerate() {

@@ -49,7 +49,7 @@ fn has_reference(meta: &Meta, features: &[FeatureNo], name: &str) -> bool
 fn is_reference_named(meta: &Meta, name: &str, feature: FeatureNo) -> bool
     ensures { result ≡ spec.is_reference_named meta.now name.now feature }
 {
-    match meta.features.get(usize::from(feature)) {
+    match meta.feature(feature) {
         Some(feature) => is_named_reference(name, feature),
         None => false,
     }
@@ -65,7 +65,7 @@ fn is_named_reference(name: &str, feature: &Feature) -> bool
 fn features_of(meta: &Meta, class: ClassNo) -> &[FeatureNo]
     ensures { result.now ≡ class_features meta.now class }
 {
-    match meta.classes.get(usize::from(class)) {
+    match meta.class(class) {
         Some(class) => class.features.as_slice(),
         None => &[],
     }
@@ -170,7 +170,7 @@ fn target_fits(
 fn leads_to(meta: &Meta, reference: FeatureNo, class: ClassNo) -> bool
     ensures { result ≡ spec.leads_to meta.now reference class }
 {
-    match meta.features.get(usize::from(reference)) {
+    match meta.feature(reference) {
         Some(feature) => kind_leads_to(&feature.kind, class),
         None => false,
     }

@@ -4,6 +4,7 @@ ghost use Rattle.std.specs.Prelude.{ℕ, ◌+◌, ◌<◌, ◌≤◌, ◌^◌, �
 ghost use Rattle.std.specs.List.{All, list_all, position_or_len, range_with_len};
 ghost use Rattle.serde_json.specs.View.{view};
 ghost use Rattle.hs_types.specs.Lists.{same_text};
+ghost use Rattle.hs_types.specs.Metamodel.{supers_are_classes};
 ghost use Rattle.hs_json.specs.Answer.{Gives};
 ghost use Rattle.hs_json.specs.MetaMeaning as spec;
 ghost use Rattle.hs_json.specs.Names.{is_identifier as named};
@@ -15,7 +16,7 @@ use crate::named::{is_there, names_differ, place_of};
 use crate::names::is_identifier;
 use crate::written::{WrittenClass, WrittenReference};
 use hs_expr::{List, Text};
-use hs_types::{Class, Feature, FeatureKind, FeatureNo, Meta};
+use hs_types::{Class, Feature, FeatureKind, FeatureNo, Meta, Metamodel};
 use serde_json::Value;
 use std::alloc::{AllocError, Global};
 
@@ -33,7 +34,19 @@ pub fn meta_of(alloc: Global, value: &Value) -> Result<Meta, BundleFault>
 {
     let classes = classes_of(alloc, value)?;
     demand(is_meant(classes.as_slice()))?;
-    Ok(meant_meta(alloc, classes.as_slice())?)
+    let plain = meant_meta(alloc, classes.as_slice())?;
+    Ok(closed(alloc, plain)?)
+}
+
+/// The metamodel closed: it has no supertypes, so none is missing.
+fn closed(alloc: Global, plain: Metamodel) -> Result<Meta, AllocError>
+    requires { supers_are_classes plain ≡ true }
+    ensures { IfOk result (λ meta. meta ≡ plain) }
+{
+    match Meta::new(alloc, plain)? {
+        Some(meta) => Ok(meta),
+        None => unreachable!(),
+    }
 }
 
 /// Whether the classes are those of a metamodel.
@@ -131,12 +144,13 @@ fn all_are_small(classes: &[WrittenClass]) -> bool
 
 /// The metamodel of these classes, its names resolved.
 #[tactic(auto, using(crate::proofs::Meant::sizes), unfolding(crate::specs::MetaMeaning::meant_meta))]
-fn meant_meta(alloc: Global, classes: &[WrittenClass]) -> Result<Meta, AllocError>
+fn meant_meta(alloc: Global, classes: &[WrittenClass]) -> Result<Metamodel, AllocError>
     requires { spec.is_meant classes.now ≡ true }
     ensures value { IfOk result (λ meta. meta ≡ spec.meant_meta classes.now) }
     ensures few { IfOk result (λ meta. length meta.classes ≤ 256) }
+    ensures alone { IfOk result (λ meta. supers_are_classes meta ≡ true) }
 {
-    Ok(Meta {
+    Ok(Metamodel {
         format: 1,
         classes: resolved_classes(alloc, classes)?,
         features: resolved_features(alloc, classes)?,

@@ -57,7 +57,7 @@ fn class_named(meta: &Meta, name: &str) -> Option<ClassNo>
     requires { length meta.now.classes ≤ 256 }
     ensures { result ≡ spec.class_named meta.now name.now }
 {
-    match place_of(meta.classes.as_slice(), name) {
+    match place_of(meta.plain().classes.as_slice(), name) {
         Some(place) => Some(place as u16),
         None => None,
     }

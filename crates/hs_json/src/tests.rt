@@ -139,13 +139,13 @@ fn is_request(request: &Request, call: &str) -> bool {
 
 /// Whether the metamodel is that of the whole bundle.
 fn is_whole_meta(meta: &Meta) -> bool {
-    let [client, account] = meta.classes.as_slice() else {
+    let [client, account] = meta.plain().classes.as_slice() else {
         return false;
     };
-    let [accounts, best, owner] = meta.features.as_slice() else {
+    let [accounts, best, owner] = meta.plain().features.as_slice() else {
         return false;
     };
-    meta.format == 1
+    meta.plain().format == 1
         && is_class(client, "Client", &[0, 1])
         && is_class(account, "Account", &[2])
         && is_reference(accounts, 0, "accounts", 1, None)

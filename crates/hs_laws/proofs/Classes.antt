@@ -6,21 +6,21 @@ use Rattle.std.proofs.lemmas.Bool.{cases_Bool, both_ways, eqb-true, eq-eqb}
 use Rattle.hs_types.specs.declared.graph.Graph.{Graph}
 use Rattle.hs_types.specs.declared.graph.Object.{Object}
 use Rattle.hs_types.specs.declared.meta.Class.{Class}
-use Rattle.hs_types.specs.declared.meta.Meta.{Meta}
+use Rattle.hs_types.specs.declared.meta.Metamodel.{Metamodel}
 use Rattle.hs_types.specs.Lists.{has, each_once}
 use Rattle.hs_types.specs.Metamodel.{Conforms, itself, above, HasSuper, IsMeta, attributes_of, class_at, features_of, owned_by, type_of}
 use Rattle.hs_types.specs.TypedGraph.{IsOf, Stands, object_at}
 use Rattle.hs_laws.proofs.Lists.{has-append_left, has-append_right, has-here, has-later, has_cases}
 
-pub Conforms-trans : (m : Meta) (a b c : ℕ) → Conforms m a b → Conforms m b c → Conforms m a c
+pub Conforms-trans : (m : Metamodel) (a b c : ℕ) → Conforms m a b → Conforms m b c → Conforms m a c
 Conforms-trans m a b c (itself d) k = k
 Conforms-trans m a b c (above e d f s h) k = above a d c s (Conforms-trans m d b c h k)
 
 -- A fact that goes down from a class to those that conform to it.
-abbrev pub GoesDown : Meta → (ℕ → Type 0) → Type 0
+abbrev pub GoesDown : Metamodel → (ℕ → Type 0) → Type 0
 GoesDown m P = (c d : ℕ) → Conforms m c d → P d → P c
 
-pub conforms-down : (m : Meta) (class : ℕ) → GoesDown m (λ c. Conforms m c class)
+pub conforms-down : (m : Metamodel) (class : ℕ) → GoesDown m (λ c. Conforms m c class)
 conforms-down m class c d k h = Conforms-trans m c d class k h
 
 pub has-filter : (q : ℕ → Bool) (ns : List ℕ) (n : ℕ) → has ns n ≡ true → q n ≡ true → has (filter q ns) n ≡ true
@@ -66,7 +66,7 @@ slice_get-below (y ∷ ys) zero x h = omega arith
 slice_get-below (y ∷ ys) (suc i) x h = let l = slice_get-below ys i x h in omega arith
 
 -- A class has the features of each class that it conforms to, and its attributes.
-super-feature : (m : Meta) (c d f : ℕ) → IsMeta m → HasSuper m c d → has (features_of m d) f ≡ true → has (features_of m c) f ≡ true
+super-feature : (m : Metamodel) (c d f : ℕ) → IsMeta m → HasSuper m c d → has (features_of m d) f ≡ true → has (features_of m c) f ≡ true
 super-feature m c d f w s h = go (class_at m c) refl s
   where
     go : (o : Option Class) → class_at m c ≡ o → IsSomeAnd o (λ class. has class.supers d ≡ true) → has (features_of m c) f ≡ true
@@ -76,15 +76,15 @@ super-feature m c d f w s h = go (class_at m c) refl s
         let here : has class.features f ≡ true = rw whole (has-append_left f (each_once (flat_map (features_of m) class.supers)) (owned_by m c) (has-each_once (flat_map (features_of m) class.supers) f (has-flat_map (features_of m) class.supers d f k h))) in
         rw e here
 
-pub feature-down : (m : Meta) (f : ℕ) → IsMeta m → GoesDown m (λ c. has (features_of m c) f ≡ true)
+pub feature-down : (m : Metamodel) (f : ℕ) → IsMeta m → GoesDown m (λ c. has (features_of m c) f ≡ true)
 feature-down m f w c d (itself e) h = h
 feature-down m f w c d (above e i k s r) h = super-feature m c i f w s (feature-down m f w i d r h)
 
-pub attribute-down : (m : Meta) (a : ℕ) → IsMeta m → GoesDown m (λ c. has (attributes_of m c) a ≡ true)
+pub attribute-down : (m : Metamodel) (a : ℕ) → IsMeta m → GoesDown m (λ c. has (attributes_of m c) a ≡ true)
 attribute-down m a w c d k h = let was = has-filter_was (λ f. is_some (type_of m f)) (features_of m d) a h in has-filter (λ f. is_some (type_of m f)) (features_of m c) a (feature-down m a w c d k was.0) was.1
 
 -- What goes down holds where an object of the class stands.
-pub Stands-down : (m : Meta) (g : Graph) (P : ℕ → Type 0) (class n : ℕ) → GoesDown m P → P class → IsOf m g class n → Stands g P n
+pub Stands-down : (m : Metamodel) (g : Graph) (P : ℕ → Type 0) (class n : ℕ) → GoesDown m P → P class → IsOf m g class n → Stands g P n
 Stands-down m g P class n down p h = go (object_at g n) h
   where
     go : (o : Option Object) → IsSomeAnd o (λ object. Conforms m object.class class) → IsSomeAnd o (λ object. P object.class)

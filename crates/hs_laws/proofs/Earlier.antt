@@ -6,7 +6,7 @@ use Rattle.std.proofs.lemmas.List.Elements.{All-cons, All-head, All-tail, All-we
 use Rattle.hs_types.specs.declared.graph.Graph.{Graph}
 use Rattle.hs_types.specs.declared.matching.Extension.{Extension}
 use Rattle.hs_types.specs.declared.matching.Match.{Match}
-use Rattle.hs_types.specs.declared.meta.Meta.{Meta}
+use Rattle.hs_types.specs.declared.meta.Metamodel.{Metamodel}
 use Rattle.hs_types.specs.declared.request.Args.{Args}
 use Rattle.hs_types.specs.declared.rule.Multi.{Multi}
 use Rattle.hs_types.specs.declared.rule.Rule.{Rule}
@@ -105,13 +105,13 @@ in_order-same (x ∷ xs) (y ∷ ys) p q a b =
     cc
 
 -- A multi-rule's copies are determined.
-AreCopies-same : (m : Meta) (g : Graph) (rule : Rule) (args : Args) (f : Extension) (multi : Multi) (xs ys : List Extension) → AreCopies m g rule args f multi xs → AreCopies m g rule args f multi ys → xs ≡ ys
+AreCopies-same : (m : Metamodel) (g : Graph) (rule : Rule) (args : Args) (f : Extension) (multi : Multi) (xs ys : List Extension) → AreCopies m g rule args f multi xs → AreCopies m g rule args f multi ys → xs ≡ ys
 AreCopies-same m g rule args f multi xs ys h k = in_order-same xs ys h.in_order k.in_order (All-weaker C (Contains ys) (λ x i. k.whole x i) xs h.each) (All-weaker C (Contains xs) (λ x i. h.whole x i) ys k.each)
   where
     C : Extension → Type 0
     C x = IsCopy m g rule args f multi x
 
-copies-same : (m : Meta) (g : Graph) (rule : Rule) (args : Args) (f : Extension) (multis : List Multi) (xss yss : List (List Extension)) → AllZip (AreCopies m g rule args f) multis xss → AllZip (AreCopies m g rule args f) multis yss → xss ≡ yss
+copies-same : (m : Metamodel) (g : Graph) (rule : Rule) (args : Args) (f : Extension) (multis : List Multi) (xss yss : List (List Extension)) → AllZip (AreCopies m g rule args f) multis xss → AllZip (AreCopies m g rule args f) multis yss → xss ≡ yss
 copies-same m g rule args f [] [] [] h k = refl
 copies-same m g rule args f [] [] (ys ∷ yss) h k = absurd k
 copies-same m g rule args f [] (xs ∷ xss) yss h k = absurd h
@@ -126,17 +126,17 @@ same_match : (f h : Match) → f.nodes ≡ h.nodes → f.edges ≡ h.edges → f
 same_match f h a b c = ap (λ (ns : List ℕ). record { nodes = ns; edges = f.edges; copies = f.copies }) a ∙ (ap (λ (es : List ℕ). record { nodes = h.nodes; edges = es; copies = f.copies }) b ∙ ap (λ (cs : List (List Extension)). record { nodes = h.nodes; edges = h.edges; copies = cs }) c)
 
 -- Two valid matches with one kernel are the same.
-pub IsValid-same : (m : Meta) (g : Graph) (rule : Rule) (args : Args) (f h : Match) → IsValid m g rule args f → IsValid m g rule args h → kernel_of f ≡ kernel_of h → f ≡ h
+pub IsValid-same : (m : Metamodel) (g : Graph) (rule : Rule) (args : Args) (f h : Match) → IsValid m g rule args f → IsValid m g rule args h → kernel_of f ≡ kernel_of h → f ≡ h
 IsValid-same m g rule args f h v w e = same_match f h (ap (λ (x : Extension). x.nodes) e) (ap (λ (x : Extension). x.edges) e) (copies-same m g rule args (kernel_of f) rule.multis f.copies h.copies v.copies (subst (λ (k : Extension). AllZip (AreCopies m g rule args k) rule.multis h.copies) (sym e) w.copies))
 
-pub IsLeast-same : (m : Meta) (g : Graph) (rule : Rule) (args : Args) (f h : Match) → IsLeast m g rule args f → IsLeast m g rule args h → f ≡ h
+pub IsLeast-same : (m : Metamodel) (g : Graph) (rule : Rule) (args : Args) (f h : Match) → IsLeast m g rule args f → IsLeast m g rule args h → f ≡ h
 IsLeast-same m g rule args f h a b = elim (IsEarlier-total (kernel_of f) (kernel_of h)) [
   | inl k ↦ absurd (b.least f a.valid k)
   | inr (inl e) ↦ IsValid-same m g rule args f h a.valid b.valid e
   | inr (inr k) ↦ absurd (a.least h b.valid k)
 ]
 
-pub IsFirst-same : (m : Meta) (g : Graph) (rule : Rule) (args : Args) (a b : Option Match) → IsFirst m g rule args a → IsFirst m g rule args b → a ≡ b
+pub IsFirst-same : (m : Metamodel) (g : Graph) (rule : Rule) (args : Args) (a b : Option Match) → IsFirst m g rule args a → IsFirst m g rule args b → a ≡ b
 IsFirst-same m g rule args None None h k = refl
 IsFirst-same m g rule args None (Some f) h k = absurd (h f k.valid)
 IsFirst-same m g rule args (Some f) None h k = absurd (k f h.valid)

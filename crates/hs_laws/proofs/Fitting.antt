@@ -11,7 +11,7 @@ use Rattle.hs_types.specs.declared.graph.Object.{Object}
 use Rattle.hs_types.specs.declared.graph.Slot.{Slot}
 use Rattle.hs_types.specs.declared.matching.Extension.{Extension}
 use Rattle.hs_types.specs.declared.matching.Match.{Match}
-use Rattle.hs_types.specs.declared.meta.Meta.{Meta}
+use Rattle.hs_types.specs.declared.meta.Metamodel.{Metamodel}
 use Rattle.hs_types.specs.declared.plan.Write.{Write}
 use Rattle.hs_types.specs.declared.request.Args.{Args}
 use Rattle.hs_types.specs.declared.rule.Mark.{Mark}
@@ -43,7 +43,7 @@ use Rattle.hs_laws.proofs.Staying.{CopyIs, CopyStays, copies_are, copies_stay, k
 use Rattle.hs_laws.proofs.Typed.{Carries}
 
 -- What each image is, each dropped one is.
-nodes_stand : (m : Meta) (g : Graph) (nodes : List PatternNode) (images : List ℕ) → AllZip (FitsNode m g) (left_nodes nodes) images → All (λ n. IsSome (object_at g n)) images
+nodes_stand : (m : Metamodel) (g : Graph) (nodes : List PatternNode) (images : List ℕ) → AllZip (FitsNode m g) (left_nodes nodes) images → All (λ n. IsSome (object_at g n)) images
 nodes_stand m g nodes images z = AllZip-right (FitsNode m g) (λ n. IsSome (object_at g n)) (λ node n k. let o = object_there m g node.class n k in ap is_some o.1) (left_nodes nodes) images z
 
 edges_stand : (g : Graph) (at : ℕ → ℕ) (edges : List PatternEdge) (images : List ℕ) → AllZip (IsImage g at) (left_edges edges) images → All (λ n. IsSome (edge_at g n)) images
@@ -74,7 +74,7 @@ value-found a (s ∷ ss) h = elim (cases_Bool (eqb s.attribute a)) [
   ]
 ]
 
-value-there : (m : Meta) (g : Graph) (n a : ℕ) → IsTyped m g → Stands g (λ c. has (attributes_of m c) a ≡ true) n → IsSome (value_at g n (Attribute a))
+value-there : (m : Metamodel) (g : Graph) (n a : ℕ) → IsTyped m g → Stands g (λ c. has (attributes_of m c) a ≡ true) n → IsSome (value_at g n (Attribute a))
 value-there m g n a t h = go (object_at g n) refl h
   where
     go : (o : Option Object) → object_at g n ≡ o → IsSomeAnd o (λ x. has (attributes_of m x.class) a ≡ true) → IsSome (option_and_then (λ x. value_in a x.slots) o)
@@ -155,10 +155,10 @@ writes_each P env nodes images sets a = All-filter_map P write (filter q sets) (
     go item (Some v) f w e = let same : made item v ≡ w = cc in subst P same (f v)
 
 -- The value in a slot of an image.
-image-value : (m : Meta) (g : Graph) (nodes : List PatternNode) (images : List ℕ) (n a : ℕ) (x : PatternNode) → IsMeta m → IsTyped m g → AllZip (FitsNode m g) (left_nodes nodes) images → slice_get nodes n ≡ Some x → is_left x.mark ≡ true → has (attributes_of m x.class) a ≡ true → IsSome (value_at g (image nodes images n) (Attribute a))
+image-value : (m : Metamodel) (g : Graph) (nodes : List PatternNode) (images : List ℕ) (n a : ℕ) (x : PatternNode) → IsMeta m → IsTyped m g → AllZip (FitsNode m g) (left_nodes nodes) images → slice_get nodes n ≡ Some x → is_left x.mark ≡ true → has (attributes_of m x.class) a ≡ true → IsSome (value_at g (image nodes images n) (Attribute a))
 image-value m g nodes images n a x d t z e left h = value-there m g (image nodes images n) a t (Stands-down m g (λ c. has (attributes_of m c) a ≡ true) x.class (image nodes images n) (attribute-down m a d) h (image-at (FitsNode m g) nodes images n x z e left))
 
-kernel_writes : (m : Meta) (g : Graph) (rule : Rule) (args : Args) (f : Match) → IsMeta m → IsRule m rule → IsTyped m g → IsValid m g rule args f → All (WriteIs g (all_dropped_nodes rule f) f.nodes) (writes_of (env_of g rule args rule.shape.nodes f.nodes) rule.shape.nodes f.nodes rule.sets)
+kernel_writes : (m : Metamodel) (g : Graph) (rule : Rule) (args : Args) (f : Match) → IsMeta m → IsRule m rule → IsTyped m g → IsValid m g rule args f → All (WriteIs g (all_dropped_nodes rule f) f.nodes) (writes_of (env_of g rule args rule.shape.nodes f.nodes) rule.shape.nodes f.nodes rule.sets)
 kernel_writes m g rule args f d w t v = writes_each (WriteIs g (all_dropped_nodes rule f) f.nodes) (env_of g rule args nodes f.nodes) nodes f.nodes rule.sets (All-weaker (λ item. (0 ≤ item.node) × SetFits m scope nodes item) (λ item. not (node_is is_make nodes item.node) ≡ true → (u : Value) → WriteIs g (all_dropped_nodes rule f) f.nodes (record { object = image nodes f.nodes item.node; slot = Attribute item.attribute; value = u })) (λ item s k u. each item s.1 k u) rule.sets w.kernel.sets_fit)
   where
     nodes : List PatternNode
@@ -180,7 +180,7 @@ record CopyWriteIs (g : Graph) (rule : Rule) (f : Match) (copy : Copy) (w : Writ
   pub used : Contains (used_slots rule (kernel_of f) copy) (record { object = w.object; slot = w.slot })
   pub written : Contains (written_slots rule (kernel_of f) copy) (record { object = w.object; slot = w.slot })
 
-copy_writes-are : (m : Meta) (g : Graph) (rule : Rule) (args : Args) (f : Match) (copy : Copy) → IsMeta m → IsTyped m g → IsValid m g rule args f → CopyIs m g rule args (kernel_of f) copy → CopyStays rule f copy → All (CopyWriteIs g rule f copy) (copy_writes g rule args (kernel_of f) copy)
+copy_writes-are : (m : Metamodel) (g : Graph) (rule : Rule) (args : Args) (f : Match) (copy : Copy) → IsMeta m → IsTyped m g → IsValid m g rule args f → CopyIs m g rule args (kernel_of f) copy → CopyStays rule f copy → All (CopyWriteIs g rule f copy) (copy_writes g rule args (kernel_of f) copy)
 copy_writes-are m g rule args f copy d t v i stays = writes_each (CopyWriteIs g rule f copy) (copy_env g rule args (kernel_of f) copy) nodes images sets (All-weaker (λ item. ((first ≤ item.node) × SetFits m (scope_of m rule nodes) nodes item) × (K item × T item)) (λ item. not (node_is is_make nodes item.node) ≡ true → (u : Value) → CopyWriteIs g rule f copy (write item u)) (λ item j k u. each item j.0.0 j.0.1 j.1.0 j.1.1 k u) sets (All-both (λ item. (first ≤ item.node) × SetFits m (scope_of m rule nodes) nodes item) (λ item. K item × T item) sets i.multi.sets_fit (All-both K T sets i.multi.slots.all_set (sets_set sets))))
   where
     first : ℕ
@@ -282,7 +282,7 @@ kernel_elsewhere : (g : Graph) (rule : Rule) (f : Match) (copy : Copy) (vs ws : 
 kernel_elsewhere g rule f copy vs ws a b d = All-weaker (WriteIs g (all_dropped_nodes rule f) f.nodes) (λ v. All (Elsewhere v) ws) (λ v i. All-weaker (CopyWriteIs g rule f copy) (Elsewhere v) (λ w j k. both_ways (has copy.found.nodes w.object) (Differ-across f.nodes copy.found.nodes w.object d (subst (λ (n : ℕ). has f.nodes n ≡ true) k.0 i.owned)) j.is.owned) ws b) vs a
 
 -- The plan of a valid match of a typed graph fits it.
-pub plan-fits : (m : Meta) (g : Graph) (rule : Rule) (args : Args) (f : Match) → IsMeta m → IsRule m rule → IsTyped m g → IsValid m g rule args f → Fits m g (plan_of m g rule args f)
+pub plan-fits : (m : Metamodel) (g : Graph) (rule : Rule) (args : Args) (f : Match) → IsMeta m → IsRule m rule → IsTyped m g → IsValid m g rule args f → Fits m g (plan_of m g rule args f)
 plan-fits m g rule args f d w t v = record {
   objects_stand = All-append (λ n. IsSome (object_at g n)) (dropped_nodes rule.shape k) (flat_map drops copies) (All-beside (λ n. IsSome (object_at g n)) (λ node. is_drop node.mark) (left_nodes nodes) f.nodes (nodes_stand m g nodes f.nodes v.plain.nodes_fit)) (All-flat_map (λ n. IsSome (object_at g n)) drops copies (All-weaker C (λ c. All (λ n. IsSome (object_at g n)) (drops c)) (λ c i. All-beside (λ n. IsSome (object_at g n)) (λ node. is_drop node.mark) (left_nodes c.multi.shape.nodes) c.found.nodes (nodes_stand m g c.multi.shape.nodes c.found.nodes i.0.extends.0.nodes_fit)) copies are));
   objects_differ = drops_differ f.nodes (λ c. c.found.nodes) drops (dropped_nodes rule.shape k) copies (Differ-beside (λ node. is_drop node.mark) (left_nodes nodes) f.nodes v.plain.nodes_differ) (λ n h. beside-has (λ node. is_drop node.mark) (left_nodes nodes) f.nodes n h) (λ c n h. beside-has (λ node. is_drop node.mark) (left_nodes c.multi.shape.nodes) c.found.nodes n h) (All-weaker C (λ c. Differ (drops c) × Differ (f.nodes ++ c.found.nodes)) (λ c i. (Differ-beside (λ node. is_drop node.mark) (left_nodes c.multi.shape.nodes) c.found.nodes (EachPair-rest (λ x y. x ≡ y → ⊥) f.nodes c.found.nodes i.0.extends.0.nodes_differ), i.0.extends.0.nodes_differ)) copies are) (EachPair-weaker Touch (λ c e. Apart (drops c) e.found.nodes) (λ c e s. s.0.objects) copies v.none_touch);

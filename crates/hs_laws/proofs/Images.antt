@@ -5,7 +5,7 @@ use Rattle.std.proofs.lemmas.Bool.{cases_Bool, both_ways, ne_eqb, or_from, false
 use Rattle.std.proofs.lemmas.List.Elements.{All-head, All-tail, filter-append}
 use Rattle.hs_types.specs.declared.graph.Graph.{Graph}
 use Rattle.hs_types.specs.declared.matching.Extension.{Extension}
-use Rattle.hs_types.specs.declared.meta.Meta.{Meta}
+use Rattle.hs_types.specs.declared.meta.Metamodel.{Metamodel}
 use Rattle.hs_types.specs.declared.rule.PatternNode.{PatternNode}
 use Rattle.hs_types.specs.declared.rule.Shape.{Shape}
 use Rattle.hs_types.specs.Lists.{has, beside, Differ}
@@ -15,7 +15,7 @@ use Rattle.hs_types.specs.TypedGraph.{IsOf}
 use Rattle.hs_laws.proofs.Lists.{AllZip-append, Differ-apart, All-by_has, beside-has}
 
 -- The object at n is of the node's class.
-abbrev pub FitsNode : Meta → Graph → PatternNode → ℕ → Type 0
+abbrev pub FitsNode : Metamodel → Graph → PatternNode → ℕ → Type 0
 FitsNode m g node n = IsOf m g node.class n
 
 -- Node n stands on the left side.
@@ -109,7 +109,7 @@ image-front R (x ∷ xs) ys (m ∷ ms) ns (suc n) z l = elim (cases_Bool (is_lef
 ]
 
 -- The images of a match and of an extension, together.
-pub joined : (m : Meta) (g : Graph) (s : Shape) (f : Extension) (t : Shape) (x : Extension) → IsPlain m g s f → Extends m g s f t x → AllZip (FitsNode m g) (left_nodes (s.nodes ++ t.nodes)) (f.nodes ++ x.nodes)
+pub joined : (m : Metamodel) (g : Graph) (s : Shape) (f : Extension) (t : Shape) (x : Extension) → IsPlain m g s f → Extends m g s f t x → AllZip (FitsNode m g) (left_nodes (s.nodes ++ t.nodes)) (f.nodes ++ x.nodes)
 joined m g s f t x h e = rw (filter-append (λ n. is_left n.mark) s.nodes t.nodes) (AllZip-append (FitsNode m g) (left_nodes s.nodes) (left_nodes t.nodes) f.nodes x.nodes h.nodes_fit e.nodes_fit)
 
 -- The image of a node of the part is that among the part's own.

@@ -7,7 +7,7 @@ use Rattle.hs_types.specs.declared.graph.Edge.{Edge}
 use Rattle.hs_types.specs.declared.graph.Graph.{Graph}
 use Rattle.hs_types.specs.declared.graph.Object.{Object}
 use Rattle.hs_types.specs.declared.matching.Extension.{Extension}
-use Rattle.hs_types.specs.declared.meta.Meta.{Meta}
+use Rattle.hs_types.specs.declared.meta.Metamodel.{Metamodel}
 use Rattle.hs_types.specs.declared.plan.MadeEdge.{MadeEdge}
 use Rattle.hs_types.specs.declared.plan.Plan.{Plan}
 use Rattle.hs_types.specs.declared.plan.Write.{Write}
@@ -38,7 +38,7 @@ abbrev edge_of : (ℕ → ℕ) → PatternEdge → ℕ → Edge
 edge_of at a n = record { number = n; source = at a.source; reference = a.reference; target = at a.target }
 
 -- An extension of which nothing is dropped stays one.
-pub Extends-kept : (m : Meta) (g : Graph) (p : Plan) (s : Shape) (f : Extension) (t : Shape) (x : Extension) → Apart x.nodes p.drop_objects → Apart x.edges p.drop_edges → Extends m g s f t x → Extends m (step g p) s f t x
+pub Extends-kept : (m : Metamodel) (g : Graph) (p : Plan) (s : Shape) (f : Extension) (t : Shape) (x : Extension) → Apart x.nodes p.drop_objects → Apart x.edges p.drop_edges → Extends m g s f t x → Extends m (step g p) s f t x
 Extends-kept m g p s f t x a b h =
     let at : ℕ → ℕ = image (s.nodes ++ t.nodes) (f.nodes ++ x.nodes) in
     record {
@@ -49,7 +49,7 @@ Extends-kept m g p s f t x a b h =
     }
 
 -- An extension of old objects and edges was one before.
-pub Extends-old : (m : Meta) (g : Graph) (p : Plan) (s : Shape) (f : Extension) (t : Shape) (x : Extension) → IsOld g x → Extends m (step g p) s f t x → Extends m g s f t x
+pub Extends-old : (m : Metamodel) (g : Graph) (p : Plan) (s : Shape) (f : Extension) (t : Shape) (x : Extension) → IsOld g x → Extends m (step g p) s f t x → Extends m g s f t x
 Extends-old m g p s f t x old h =
     let at : ℕ → ℕ = image (s.nodes ++ t.nodes) (f.nodes ++ x.nodes) in
     record {
@@ -60,7 +60,7 @@ Extends-old m g p s f t x old h =
     }
 
 -- An extension onto kinds of which nothing is made was one before, and its objects were not dropped.
-pub Extends-unmade : (m : Meta) (g : Graph) (p : Plan) (s : Shape) (f : Extension) (t : Shape) (x : Extension) → MakesNone m p t → Extends m (step g p) s f t x → Extends m g s f t x × Apart x.nodes p.drop_objects
+pub Extends-unmade : (m : Metamodel) (g : Graph) (p : Plan) (s : Shape) (f : Extension) (t : Shape) (x : Extension) → MakesNone m p t → Extends m (step g p) s f t x → Extends m g s f t x × Apart x.nodes p.drop_objects
 Extends-unmade m g p s f t x none h =
     let at : ℕ → ℕ = image (s.nodes ++ t.nodes) (f.nodes ++ x.nodes) in
     let P : PatternNode → Type 0 = λ node. All (λ o. Conforms m o.class node.class → ⊥) p.make_objects in
@@ -117,7 +117,7 @@ unwritten_kind n kind [] a = refl
 unwritten_kind n kind (w ∷ ws) a = or_from (is_to n kind w) (list_any (is_to n kind) ws) (and_right (eqb w.object n) (is_kind w.slot kind) (All-head (λ write. is_kind write.slot kind ≡ false) w ws a)) (unwritten_kind n kind ws (All-tail (λ write. is_kind write.slot kind ≡ false) w ws a))
 
 -- An object stands where one of a class stands.
-pub object_there : (m : Meta) (g : Graph) (class n : ℕ) → IsOf m g class n → (x : Object) × (object_at g n ≡ Some x)
+pub object_there : (m : Metamodel) (g : Graph) (class n : ℕ) → IsOf m g class n → (x : Object) × (object_at g n ≡ Some x)
 object_there m g class n h = go (object_at g n) refl h
   where
     go : (o : Option Object) → object_at g n ≡ o → IsSomeAnd o (λ o. Conforms m o.class class) → (x : Object) × (object_at g n ≡ Some x)
@@ -125,7 +125,7 @@ object_there m g class n h = go (object_at g n) refl h
     go (Some x) e h = (x, e)
 
 -- A slot of an image that stays keeps its value where it is not written.
-pub value-stays : (m : Meta) (g : Graph) (p : Plan) (nodes : List PatternNode) (images : List ℕ) (n : ℕ) (slot : SlotKind) → AllZip (FitsNode m g) (left_nodes nodes) images → Apart images p.drop_objects → IsLeft nodes n → list_any (is_to (image nodes images n) slot) p.writes ≡ false → value_at (step g p) (image nodes images n) slot ≡ value_at g (image nodes images n) slot
+pub value-stays : (m : Metamodel) (g : Graph) (p : Plan) (nodes : List PatternNode) (images : List ℕ) (n : ℕ) (slot : SlotKind) → AllZip (FitsNode m g) (left_nodes nodes) images → Apart images p.drop_objects → IsLeft nodes n → list_any (is_to (image nodes images n) slot) p.writes ≡ false → value_at (step g p) (image nodes images n) slot ≡ value_at g (image nodes images n) slot
 value-stays m g p nodes images n slot fit stay left w =
     let There : ℕ → Type 0 = λ i. (x : Object) × (object_at g i ≡ Some x) in
     let there : All There images = AllZip-right (FitsNode m g) There (λ node i k. object_there m g node.class i k) (left_nodes nodes) images fit in

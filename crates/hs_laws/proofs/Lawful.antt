@@ -15,7 +15,7 @@ use Rattle.hs_types.specs.declared.entry.What.{What}
 use Rattle.hs_types.specs.declared.entry.What.TheVariants.{One, Group}
 use Rattle.hs_types.specs.declared.graph.Graph.{Graph}
 use Rattle.hs_types.specs.declared.matching.Match.{Match}
-use Rattle.hs_types.specs.declared.meta.Meta.{Meta}
+use Rattle.hs_types.specs.declared.meta.Metamodel.{Metamodel}
 use Rattle.hs_types.specs.declared.request.Args.{Args}
 use Rattle.hs_types.specs.declared.rule.Rule.{Rule}
 use Rattle.hs_types.specs.declared.unit.RuleSet.{RuleSet}
@@ -107,7 +107,7 @@ IsLawful-push rules g entries entry h k place = elim (cases_lt place (length ent
     here = rw (at, whole) k
 
 -- The graph after an attempt that is lawful in a typed graph is typed.
-after_outcome-typed : (m : Meta) (g : Graph) (rule : Rule) (args : Args) (outcome : Outcome) → IsMeta m → IsRule m rule → IsTyped m g → ((asked : Cause) → OutcomeAsks m g rule args outcome asked) → IsTyped m (after_outcome m g rule args outcome)
+after_outcome-typed : (m : Metamodel) (g : Graph) (rule : Rule) (args : Args) (outcome : Outcome) → IsMeta m → IsRule m rule → IsTyped m g → ((asked : Cause) → OutcomeAsks m g rule args outcome asked) → IsTyped m (after_outcome m g rule args outcome)
 after_outcome-typed m g rule args Missed d w t h = t
 after_outcome-typed m g rule args (Applied found new old gone) d w t h = go (match_named g found) (h cause.Match)
   where
@@ -118,7 +118,7 @@ after_outcome-typed m g rule args (Applied found new old gone) d w t h = go (mat
 pub after_try-typed : (rules : RuleSet) (g : Graph) (tried : Tried) → IsMeta (meta_of rules) → All (IsRule (meta_of rules)) rules.rules → IsTyped (meta_of rules) g → IsLawfulTry rules g tried → IsTyped (meta_of rules) (after_try rules g tried)
 after_try-typed rules g tried d ws t h = go (rule_of rules tried) refl
   where
-    m : Meta
+    m : Metamodel
     m = meta_of rules
 
     asked : (rule : Rule) → rule_of rules tried ≡ Some rule → (c : Cause) → OutcomeAsks m g rule tried.args tried.outcome c
@@ -167,7 +167,7 @@ after_journal-typed rules g entries zero d ws t h = start entries
     start (e ∷ es) = t
 after_journal-typed rules g entries (suc n) d ws t h = go (after_journal-typed rules g entries n d ws t h) (slice_get entries n) refl
   where
-    m : Meta
+    m : Metamodel
     m = meta_of rules
 
     go : IsTyped m (after_journal rules g (take n entries)) → (o : Option Entry) → slice_get entries n ≡ o → IsTyped m (after_journal rules g (take (suc n) entries))

@@ -9,7 +9,7 @@ use Rattle.hs_types.specs.declared.graph.Edge.{Edge}
 use Rattle.hs_types.specs.declared.graph.Graph.{Graph}
 use Rattle.hs_types.specs.declared.graph.Object.{Object}
 use Rattle.hs_types.specs.declared.graph.Slot.{Slot}
-use Rattle.hs_types.specs.declared.meta.Meta.{Meta}
+use Rattle.hs_types.specs.declared.meta.Metamodel.{Metamodel}
 use Rattle.hs_types.specs.declared.plan.MadeEdge.{MadeEdge}
 use Rattle.hs_types.specs.declared.plan.MadeObject.{MadeObject}
 use Rattle.hs_types.specs.declared.plan.Plan.{Plan}
@@ -131,7 +131,7 @@ edge-old g p n e l h =
     back false (Some x) h = h
 
 -- What is of a class that is not made stood before.
-pub object-unmade : (m : Meta) (g : Graph) (p : Plan) (class n : ℕ) → All (λ o. Conforms m o.class class → ⊥) p.make_objects → IsOf m (step g p) class n → (has p.drop_objects n ≡ false) × IsOf m g class n
+pub object-unmade : (m : Metamodel) (g : Graph) (p : Plan) (class n : ℕ) → All (λ o. Conforms m o.class class → ⊥) p.make_objects → IsOf m (step g p) class n → (has p.drop_objects n ≡ false) × IsOf m g class n
 object-unmade m g p class n none h =
     let P : Option Object → Type 0 = λ o. IsSomeAnd o (λ o. Conforms m o.class class) in
     back (has p.drop_objects n) (object_at g n) (find (λ o. eqb o.number n) (new_objects g.next_object g.next_name p.make_objects)) (unmade g.next_object g.next_name p.make_objects none) (subst P (object_at-step g p n) h)

@@ -14,7 +14,7 @@ use Rattle.hs_types.specs.declared.matching.Match.{Match}
 use Rattle.hs_types.specs.declared.meta.Feature.{Feature}
 use Rattle.hs_types.specs.declared.meta.FeatureKind.{FeatureKind}
 use Rattle.hs_types.specs.declared.meta.FeatureKind.TheVariants as feature
-use Rattle.hs_types.specs.declared.meta.Meta.{Meta}
+use Rattle.hs_types.specs.declared.meta.Metamodel.{Metamodel}
 use Rattle.hs_types.specs.declared.plan.End.{End}
 use Rattle.hs_types.specs.declared.plan.MadeEdge.{MadeEdge}
 use Rattle.hs_types.specs.declared.plan.MadeObject.{MadeObject}
@@ -46,7 +46,7 @@ use Rattle.hs_laws.proofs.Staying.{CopyIs, CopyStays, copies_are, copies_stay, k
 use Rattle.hs_laws.proofs.Typed.{Carries, IsTyped-step}
 
 -- The values that are written fit.
-writes_fit : (m : Meta) (env : Env) (nodes : List PatternNode) (images : List ℕ) (sets : List SetItem) → AreFit m env sets → All (λ write. SlotFits m write.slot write.value) (writes_of env nodes images sets)
+writes_fit : (m : Metamodel) (env : Env) (nodes : List PatternNode) (images : List ℕ) (sets : List SetItem) → AreFit m env sets → All (λ write. SlotFits m write.slot write.value) (writes_of env nodes images sets)
 writes_fit m env nodes images sets h = All-filter_map W write (filter q sets) (All-weaker F (λ item. (w : Write) → write item ≡ Some w → W w) (λ item i w e. go item (value_of env item.value) refl i w e) (filter q sets) (All-filter q F sets h))
   where
     W : Write → Type 0
@@ -69,7 +69,7 @@ writes_fit m env nodes images sets h = All-filter_map W write (filter q sets) (A
     go item (Some v) e i w s = let same : made item v ≡ w = cc in subst W same i
 
 -- An attribute has a default, and it fits.
-default-fits : (m : Meta) (a : ℕ) → IsMeta m → IsSome (type_of m a) → IsSomeAnd (default_of m a) (λ v. fits m a v ≡ true)
+default-fits : (m : Metamodel) (a : ℕ) → IsMeta m → IsSome (type_of m a) → IsSomeAnd (default_of m a) (λ v. fits m a v ≡ true)
 default-fits m a w h = go (feature_at m a) refl h
   where
     of_kind : (k : FeatureKind) → IsSome (type_of_kind k) → FeatureFits m k → IsSomeAnd (default_of_kind k) (λ v. unwrap_or (option_map (λ t. is_of_type t v) (type_of_kind k)) false ≡ true)
@@ -86,7 +86,7 @@ default-fits m a w h = go (feature_at m a) refl h
         sound (x ∷ xs) (suc i) f a h = sound xs i f (All-tail (λ f. FeatureFits m f.kind) x xs a) h
 
 -- Each attribute of a made object has a value that fits.
-slot-fits : (m : Meta) (env : Env) (sets : List SetItem) (n a : ℕ) → IsMeta m → AreFit m env sets → IsSome (type_of m a) → IsSomeAnd (option_or (value_set env sets n a) (default_of m a)) (λ v. fits m a v ≡ true)
+slot-fits : (m : Metamodel) (env : Env) (sets : List SetItem) (n a : ℕ) → IsMeta m → AreFit m env sets → IsSome (type_of m a) → IsSomeAnd (option_or (value_set env sets n a) (default_of m a)) (λ v. fits m a v ≡ true)
 slot-fits m env sets n a w f h = go (find q sets) refl
   where
     q : SetItem → Bool
@@ -106,7 +106,7 @@ slot-fits m env sets n a w f h = go (find q sets) refl
         chosen (value_of env item.value) (subst (λ (b : ℕ). IsSomeAnd (value_of env item.value) (λ v. fits m b v ≡ true)) same (All-find F q sets item f e))
 
 -- The slots of a made object are those of its class.
-made_slots-fit : (m : Meta) (env : Env) (sets : List SetItem) (n class : ℕ) → IsMeta m → AreFit m env sets → IsConcrete m class → AreSlotsOf m class (made_slots m env sets n class)
+made_slots-fit : (m : Metamodel) (env : Env) (sets : List SetItem) (n class : ℕ) → IsMeta m → AreFit m env sets → IsConcrete m class → AreSlotsOf m class (made_slots m env sets n class)
 made_slots-fit m env sets n class w f c = (c, named (attributes_of m class) typed, All-filter_map V slot (attributes_of m class) (All-weaker T (λ a. (s : Slot) → slot a ≡ Some s → V s) (λ a t s e. value a (option_or (value_set env sets n a) (default_of m a)) (slot-fits m env sets n a w f t) s e) (attributes_of m class) typed))
   where
     T : ℕ → Type 0
@@ -136,7 +136,7 @@ made_slots-fit m env sets n class w f c = (c, named (attributes_of m class) type
     named [] t = refl
     named (a ∷ as') t = first a (filter_map slot as') (option_or (value_set env sets n a) (default_of m a)) (slot-fits m env sets n a w f (All-head T a as' t)) ∙ ap (λ (l : List ℕ). a ∷ l) (named as' (All-tail T a as' t))
 
-objects_for-fit : (m : Meta) (env : Env) (sets : List SetItem) (k : ℕ) (nodes : List PatternNode) → IsMeta m → AreFit m env sets → All (NodeFits m) nodes → All (λ o. AreSlotsOf m o.class o.slots) (objects_for m env sets k nodes)
+objects_for-fit : (m : Metamodel) (env : Env) (sets : List SetItem) (k : ℕ) (nodes : List PatternNode) → IsMeta m → AreFit m env sets → All (NodeFits m) nodes → All (λ o. AreSlotsOf m o.class o.slots) (objects_for m env sets k nodes)
 objects_for-fit m env sets k [] w f a = All-nil (λ o. AreSlotsOf m o.class o.slots)
 objects_for-fit m env sets k (x ∷ xs) w f a = elim (cases_Bool (is_make x.mark)) [
   | inl e ↦ rw e (All-cons (λ o. AreSlotsOf m o.class o.slots) (record { class = x.class; slots = made_slots m env sets k x.class }) (objects_for m env sets (k + 1) xs) (made_slots-fit m env sets k x.class w f ((All-head (NodeFits m) x xs a).1 e)) (objects_for-fit m env sets (k + 1) xs w f (All-tail (NodeFits m) x xs a)))
@@ -152,7 +152,7 @@ pub not_dropped : (b : Mark) → not (is_drop b) ≡ true → is_drop b ≡ fals
 not_dropped b h = not-true (is_drop b) h
 
 -- The object that is made for a made node.
-made_at : (m : Meta) (env : Env) (sets : List SetItem) (k : ℕ) (nodes : List PatternNode) (n : ℕ) (x : PatternNode) (P : ℕ → Type 0) → slice_get nodes n ≡ Some x → is_make x.mark ≡ true → P x.class → IsSomeAnd (slice_get (objects_for m env sets k nodes) (length (made_nodes (take n nodes)))) (λ o. P o.class)
+made_at : (m : Metamodel) (env : Env) (sets : List SetItem) (k : ℕ) (nodes : List PatternNode) (n : ℕ) (x : PatternNode) (P : ℕ → Type 0) → slice_get nodes n ≡ Some x → is_make x.mark ≡ true → P x.class → IsSomeAnd (slice_get (objects_for m env sets k nodes) (length (made_nodes (take n nodes)))) (λ o. P o.class)
 made_at m env sets k [] n x P h l c = absurd (cc)
 made_at m env sets k (y ∷ ys) zero x P h l c = let same : y ≡ x = cc in rw (ap (λ (k : PatternNode). is_make k.mark) same ∙ l) (subst (λ (k : PatternNode). P k.class) (sym same) c)
 made_at m env sets k (y ∷ ys) (suc n) x P h l c = elim (cases_Bool (is_make y.mark)) [
@@ -160,7 +160,7 @@ made_at m env sets k (y ∷ ys) (suc n) x P h l c = elim (cases_Bool (is_make y.
   | inr e ↦ rw e (made_at m env sets (k + 1) ys n x P h l c)
 ]
 
-objects_for-length : (m : Meta) (env : Env) (sets : List SetItem) (k : ℕ) (nodes : List PatternNode) → length (objects_for m env sets k nodes) ≡ length (made_nodes nodes)
+objects_for-length : (m : Metamodel) (env : Env) (sets : List SetItem) (k : ℕ) (nodes : List PatternNode) → length (objects_for m env sets k nodes) ≡ length (made_nodes nodes)
 objects_for-length m env sets k [] = refl
 objects_for-length m env sets k (x ∷ xs) = elim (cases_Bool (is_make x.mark)) [
   | inl e ↦ rw e (ap suc (objects_for-length m env sets (k + 1) xs))
@@ -177,7 +177,7 @@ made_before (x ∷ xs) ys (suc n) l =
     elim (cases_Bool (is_make x.mark)) [ inl t ↦ rw (e, t) (omega arith) | inr t ↦ rw (e, t) rest ]
 
 -- An end of an edge that the kernel makes.
-kernel_end : (m : Meta) (g : Graph) (rule : Rule) (args : Args) (f : Match) (P : ℕ → Type 0) (n : ℕ) → IsRule m rule → IsValid m g rule args f → GoesDown m P → EndFits (joins Make) rule.shape.nodes P n → EndIs g (plan_of m g rule args f) P (end_of rule.shape.nodes f.nodes n)
+kernel_end : (m : Metamodel) (g : Graph) (rule : Rule) (args : Args) (f : Match) (P : ℕ → Type 0) (n : ℕ) → IsRule m rule → IsValid m g rule args f → GoesDown m P → EndFits (joins Make) rule.shape.nodes P n → EndIs g (plan_of m g rule args f) P (end_of rule.shape.nodes f.nodes n)
 kernel_end m g rule args f P n w v down s = go (slice_get rule.shape.nodes n) refl s
   where
     nodes : List PatternNode
@@ -197,7 +197,7 @@ kernel_end m g rule args f P n w v down s = go (slice_get rule.shape.nodes n) re
     ]
 
 -- An end of an edge that a copy makes, in a plan that makes the objects of the kernel, of the copies before it, and of this one.
-copy_end-fits : (m : Meta) (g : Graph) (rule : Rule) (args : Args) (f : Match) (copy : Copy) (front rest : List MadeObject) (P : ℕ → Type 0) (n : ℕ) → IsRule m rule → IsValid m g rule args f → CopyIs m g rule args (kernel_of f) copy → CopyStays rule f copy
+copy_end-fits : (m : Metamodel) (g : Graph) (rule : Rule) (args : Args) (f : Match) (copy : Copy) (front rest : List MadeObject) (P : ℕ → Type 0) (n : ℕ) → IsRule m rule → IsValid m g rule args f → CopyIs m g rule args (kernel_of f) copy → CopyStays rule f copy
     → (plan_of m g rule args f).make_objects ≡ objects_for m (env_of g rule args rule.shape.nodes f.nodes) rule.sets 0 rule.shape.nodes ++ (front ++ (copy_objects m g rule args (kernel_of f) copy ++ rest))
     → GoesDown m P → EndFits (joins Make) (rule.shape.nodes ++ copy.multi.shape.nodes) P n → EndIs g (plan_of m g rule args f) P (copy_end rule (kernel_of f) (length front) copy n)
 copy_end-fits m g rule args f copy front rest P n w v is stays objects down s = go (slice_get nodes n) refl s
@@ -252,7 +252,7 @@ copy_end-fits m g rule args f copy front rest P n w v is stays objects down s = 
     ]
 
 -- Edges that are made can be made where their ends can.
-edges_for-fit : (m : Meta) (g : Graph) (plan : Plan) (nodes : List PatternNode) (end : ℕ → End) (edges : List PatternEdge) → IsMeta m → ((P : ℕ → Type 0) (n : ℕ) → GoesDown m P → EndFits (joins Make) nodes P n → EndIs g plan P (end n)) → All (λ edge. EdgeFits m (joins edge.mark) nodes edge) edges → All (CanBeMade m g plan) (edges_for end edges)
+edges_for-fit : (m : Metamodel) (g : Graph) (plan : Plan) (nodes : List PatternNode) (end : ℕ → End) (edges : List PatternEdge) → IsMeta m → ((P : ℕ → Type 0) (n : ℕ) → GoesDown m P → EndFits (joins Make) nodes P n → EndIs g plan P (end n)) → All (λ edge. EdgeFits m (joins edge.mark) nodes edge) edges → All (CanBeMade m g plan) (edges_for end edges)
 edges_for-fit m g plan nodes end edges w ends a = All-map (CanBeMade m g plan) made (made_edges edges) (All-kept (λ edge. EdgeFits m (joins edge.mark) nodes edge) (λ edge. CanBeMade m g plan (made edge)) (λ edge. is_make edge.mark) edges each a)
   where
     made : PatternEdge → MadeEdge
@@ -276,7 +276,7 @@ flat_map-append h [] ys = refl
 flat_map-append h (x ∷ xs) ys = ap (λ l. h x ++ l) (flat_map-append h xs ys) ∙ sym (append_assoc (h x) (flat_map h xs) (flat_map h ys))
 
 -- The edges of all copies can be made.
-copy_edges-fit : (m : Meta) (g : Graph) (rule : Rule) (args : Args) (f : Match) (done copies : List Copy) → IsMeta m → IsRule m rule → IsValid m g rule args f → All (λ copy. CopyIs m g rule args (kernel_of f) copy × CopyStays rule f copy) copies → copies_of rule f ≡ done ++ copies → All (CanBeMade m g (plan_of m g rule args f)) (copy_edges rule (kernel_of f) (length (flat_map (copy_objects m g rule args (kernel_of f)) done)) copies)
+copy_edges-fit : (m : Metamodel) (g : Graph) (rule : Rule) (args : Args) (f : Match) (done copies : List Copy) → IsMeta m → IsRule m rule → IsValid m g rule args f → All (λ copy. CopyIs m g rule args (kernel_of f) copy × CopyStays rule f copy) copies → copies_of rule f ≡ done ++ copies → All (CanBeMade m g (plan_of m g rule args f)) (copy_edges rule (kernel_of f) (length (flat_map (copy_objects m g rule args (kernel_of f)) done)) copies)
 copy_edges-fit m g rule args f done [] d w v a e = All-nil (CanBeMade m g (plan_of m g rule args f))
 copy_edges-fit m g rule args f done (copy ∷ copies) d w v a e = All-append (CanBeMade m g plan) (edges_for (copy_end rule k (length front) copy) copy.multi.shape.edges) (copy_edges rule k (length front + length (made_nodes copy.multi.shape.nodes)) copies)
     (edges_for-fit m g plan (rule.shape.nodes ++ copy.multi.shape.nodes) (copy_end rule k (length front) copy) copy.multi.shape.edges d (λ P n down s. copy_end-fits m g rule args f copy front (flat_map objects copies) P n w v here.0 here.1 all down s) here.0.multi.edges_fit)
@@ -304,7 +304,7 @@ copy_edges-fit m g rule args f done (copy ∷ copies) d w v a e = All-append (Ca
     all = ap (λ (l : List MadeObject). objects_for m (env_of g rule args rule.shape.nodes f.nodes) rule.sets 0 rule.shape.nodes ++ l) (ap (flat_map objects) e ∙ flat_map-append objects done (copy ∷ copies))
 
 -- What a valid match plans carries the graph on.
-pub plan-carries : (m : Meta) (g : Graph) (rule : Rule) (args : Args) (f : Match) → IsMeta m → IsRule m rule → IsValid m g rule args f → Carries m g (plan_of m g rule args f)
+pub plan-carries : (m : Metamodel) (g : Graph) (rule : Rule) (args : Args) (f : Match) → IsMeta m → IsRule m rule → IsValid m g rule args f → Carries m g (plan_of m g rule args f)
 plan-carries m g rule args f d w v = record {
   none_dangle = v.none_dangle;
   values_fit = All-append W (writes_of env nodes f.nodes rule.sets) (flat_map (copy_writes g rule args k) copies) (writes_fit m env nodes f.nodes rule.sets v.sets_fit) (All-flat_map W (copy_writes g rule args k) copies (All-weaker (CopyIs m g rule args k) (λ copy. All W (copy_writes g rule args k copy)) (λ copy i. writes_fit m (copy_env g rule args k copy) (nodes_of rule copy.multi) (images_of k copy.found) copy.multi.sets i.sets_fit) copies are));
@@ -337,5 +337,5 @@ plan-carries m g rule args f d w v = record {
     O o = AreSlotsOf m o.class o.slots
 
 -- The step of a valid match of a typed graph is a typed graph.
-pub IsTyped-applied : (m : Meta) (g : Graph) (rule : Rule) (args : Args) (f : Match) → IsMeta m → IsRule m rule → IsTyped m g → IsValid m g rule args f → IsTyped m (step g (plan_of m g rule args f))
+pub IsTyped-applied : (m : Metamodel) (g : Graph) (rule : Rule) (args : Args) (f : Match) → IsMeta m → IsRule m rule → IsTyped m g → IsValid m g rule args f → IsTyped m (step g (plan_of m g rule args f))
 IsTyped-applied m g rule args f d w t v = IsTyped-step m g (plan_of m g rule args f) t (plan-carries m g rule args f d w v)

@@ -11,7 +11,7 @@ use Rattle.hs_expr.specs.declared.value.Kind.{Kind}
 use Rattle.hs_expr.specs.declared.value.Kind.TheVariants as kind
 use Rattle.hs_expr.specs.Evaluation.{Scope, kind_in, kind_joined, kind_negated, kind_of_level, kind_opposite, reads_of, reads_of_level}
 use Rattle.hs_types.specs.declared.meta.DataType.{DataType}
-use Rattle.hs_types.specs.declared.meta.Meta.{Meta}
+use Rattle.hs_types.specs.declared.meta.Metamodel.{Metamodel}
 use Rattle.hs_types.specs.declared.rule.Mark.{Mark}
 use Rattle.hs_types.specs.declared.rule.Multi.{Multi}
 use Rattle.hs_types.specs.declared.rule.PatternNode.{PatternNode}
@@ -55,7 +55,7 @@ kinds-read scope = ind-Expr P (λ x y h. subst (λ (x : Expr-F Expr). P (roll-Ex
         All-append R (reads_of e.0) (reads_of f.0) (e.1 i.0 i.1) (f.1 j.0 j.1))
 
 -- A slot has a kind at a left node.
-pub slot_kind-left : (m : Meta) (nodes : List PatternNode) (n a : ℕ) → IsSome (slot_kind m nodes n a) → IsLeft nodes n
+pub slot_kind-left : (m : Metamodel) (nodes : List PatternNode) (n a : ℕ) → IsSome (slot_kind m nodes n a) → IsLeft nodes n
 slot_kind-left m nodes n a h = go (slice_get nodes n) refl h
   where
     go : (o : Option PatternNode) → slice_get nodes n ≡ o → IsSome (option_and_then (λ node. cond (is_left node.mark && has (attributes_of m node.class) a) (option_map kind_of_type (type_of m a)) None) o) → IsLeft nodes n
@@ -66,7 +66,7 @@ slot_kind-left m nodes n a h = go (slice_get nodes n) refl h
     ]
 
 -- All reads of a block's expressions are of left nodes.
-pub block_left : (m : Meta) (rule : Rule) (nodes : List PatternNode) (wheres : List Expr) (sets : List SetItem) → All (λ expr. kind_in (scope_of m rule nodes) expr ≡ Some kind.Bool) wheres → All (λ item. IsSome (kind_in (scope_of m rule nodes) item.value)) sets → All (λ read. IsLeft nodes read.node) (reads_in wheres sets)
+pub block_left : (m : Metamodel) (rule : Rule) (nodes : List PatternNode) (wheres : List Expr) (sets : List SetItem) → All (λ expr. kind_in (scope_of m rule nodes) expr ≡ Some kind.Bool) wheres → All (λ item. IsSome (kind_in (scope_of m rule nodes) item.value)) sets → All (λ read. IsLeft nodes read.node) (reads_in wheres sets)
 block_left m rule nodes wheres sets a b = All-append L (flat_map reads_of wheres) (flat_map (λ item. reads_of item.value) sets)
     (All-flat_map L reads_of wheres (All-weaker (λ expr. kind_in (scope_of m rule nodes) expr ≡ Some kind.Bool) (λ expr. All L (reads_of expr)) (λ expr h. lefts expr kind.Bool h) wheres a))
     (All-flat_map L (λ item. reads_of item.value) sets (All-weaker (λ item. IsSome (kind_in (scope_of m rule nodes) item.value)) (λ item. All L (reads_of item.value)) (λ item h. known item.value (kind_in (scope_of m rule nodes) item.value) refl h) sets b))
@@ -82,11 +82,11 @@ block_left m rule nodes wheres sets a b = All-append L (flat_map reads_of wheres
     known expr (Some k) e h = lefts expr k e
 
 -- An attribute of a class has a data type.
-pub attribute-typed : (m : Meta) (c a : ℕ) → has (attributes_of m c) a ≡ true → IsSome (type_of m a)
+pub attribute-typed : (m : Metamodel) (c a : ℕ) → has (attributes_of m c) a ≡ true → IsSome (type_of m a)
 attribute-typed m c a h = All-has (λ f. IsSome (type_of m f)) (attributes_of m c) a (filter_passes (λ f. is_some (type_of m f)) (features_of m c)) h
 
 -- A `set` of a rule has a value of some kind.
-pub set-kind : (m : Meta) (scope : Scope) (nodes : List PatternNode) (item : SetItem) → SetFits m scope nodes item → IsSome (kind_in scope item.value)
+pub set-kind : (m : Metamodel) (scope : Scope) (nodes : List PatternNode) (item : SetItem) → SetFits m scope nodes item → IsSome (kind_in scope item.value)
 set-kind m scope nodes item s = rw s.1 (mapped (type_of m item.attribute) (go (slice_get nodes item.node) s.0))
   where
     mapped : (o : Option DataType) → IsSome o → IsSome (option_map kind_of_type o)
@@ -116,7 +116,7 @@ node_is-first test xs ys n l h = rw (slice_get-first xs ys n l) at h
 abbrev KernelSlot : Rule → SlotRead → Type 0
 KernelSlot rule read = read.node < length rule.shape.nodes → has_slot rule.shape.slots read.node (Attribute read.attribute) ≡ true
 
-kernel_slots : (m : Meta) (rule : Rule) → IsRule m rule → All (KernelSlot rule) (all_reads rule)
+kernel_slots : (m : Metamodel) (rule : Rule) → IsRule m rule → All (KernelSlot rule) (all_reads rule)
 kernel_slots m rule w = All-weaker (λ read. q read ≡ true → 0 ≤ read.node → S read) (KernelSlot rule) (λ read h l. h (lt-ltb read.node (length rule.shape.nodes) l) (omega arith)) (all_reads rule) (All-of_filter (λ read. 0 ≤ read.node → S read) q (all_reads rule) w.kernel.slots.all_read)
   where
     q : SlotRead → Bool
@@ -125,7 +125,7 @@ kernel_slots m rule w = All-weaker (λ read. q read ≡ true → 0 ≤ read.node
     S : SlotRead → Type 0
     S read = has_slot rule.shape.slots read.node (Attribute read.attribute) ≡ true
 
-pub kernel_read : (m : Meta) (rule : Rule) → IsRule m rule → All (ReadsKernel rule) (reads_in rule.wheres rule.sets)
+pub kernel_read : (m : Metamodel) (rule : Rule) → IsRule m rule → All (ReadsKernel rule) (reads_in rule.wheres rule.sets)
 kernel_read m rule w = All-weaker (λ read. L read × H read) (ReadsKernel rule) (λ read h. (h.0, h.1 (node_is-below is_left rule.shape.nodes read.node h.0))) (reads_in rule.wheres rule.sets) (All-both L H (reads_in rule.wheres rule.sets) lefts (All-front H (reads_in rule.wheres rule.sets) (flat_map (λ multi. reads_in multi.wheres multi.sets) rule.multis) slots))
   where
     L : SlotRead → Type 0
@@ -143,7 +143,7 @@ kernel_read m rule w = All-weaker (λ read. L read × H read) (ReadsKernel rule)
     slots : All H (all_reads rule)
     slots = kernel_slots m rule w
 
-pub multi_read : (m : Meta) (rule : Rule) → IsRule m rule → All (λ multi. All (ReadsMulti rule multi) (reads_in multi.wheres multi.sets)) rule.multis
+pub multi_read : (m : Metamodel) (rule : Rule) → IsRule m rule → All (λ multi. All (ReadsMulti rule multi) (reads_in multi.wheres multi.sets)) rule.multis
 multi_read m rule w = All-weaker (λ multi. IsMulti m rule multi × All (KernelSlot rule) (reads_in multi.wheres multi.sets)) (λ multi. All (ReadsMulti rule multi) (reads_in multi.wheres multi.sets)) (λ multi h. each multi h.0 h.1) rule.multis
     (All-both (IsMulti m rule) (λ multi. All (KernelSlot rule) (reads_in multi.wheres multi.sets)) rule.multis w.multis (All-of_flat_map (KernelSlot rule) (λ multi. reads_in multi.wheres multi.sets) rule.multis (All-rest_of (KernelSlot rule) (reads_in rule.wheres rule.sets) (flat_map (λ multi. reads_in multi.wheres multi.sets) rule.multis) (kernel_slots m rule w))))
   where

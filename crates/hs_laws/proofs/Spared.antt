@@ -13,7 +13,7 @@ use Rattle.hs_types.specs.declared.graph.Graph.{Graph}
 use Rattle.hs_types.specs.declared.graph.Slot.{Slot}
 use Rattle.hs_types.specs.declared.matching.Extension.{Extension}
 use Rattle.hs_types.specs.declared.matching.Match.{Match}
-use Rattle.hs_types.specs.declared.meta.Meta.{Meta}
+use Rattle.hs_types.specs.declared.meta.Metamodel.{Metamodel}
 use Rattle.hs_types.specs.declared.plan.MadeObject.{MadeObject}
 use Rattle.hs_types.specs.declared.plan.Plan.{Plan}
 use Rattle.hs_types.specs.declared.plan.Write.{Write}
@@ -55,7 +55,7 @@ SetsSame a b sets = All (λ item. Same a b item.value) sets
 AreTrue-same : (a b : Env) (wheres : List Expr) → All (Same a b) wheres → AreTrue a wheres → AreTrue b wheres
 AreTrue-same a b wheres s h = All-weaker (λ expr. Same a b expr × (value_of a expr ≡ Some (value.Bool true))) (λ expr. value_of b expr ≡ Some (value.Bool true)) (λ expr k. sym k.0 ∙ k.1) wheres (All-both (Same a b) (λ expr. value_of a expr ≡ Some (value.Bool true)) wheres s h)
 
-AreFit-same : (m : Meta) (a b : Env) (sets : List SetItem) → SetsSame a b sets → AreFit m a sets → AreFit m b sets
+AreFit-same : (m : Metamodel) (a b : Env) (sets : List SetItem) → SetsSame a b sets → AreFit m a sets → AreFit m b sets
 AreFit-same m a b sets s h = All-weaker (λ item. Same a b item.value × F item (value_of a item.value)) (λ item. F item (value_of b item.value)) (λ item k. subst (F item) k.0 k.1) sets (All-both (λ item. Same a b item.value) (λ item. F item (value_of a item.value)) sets s h)
   where
     F : SetItem → Option Value → Type 0
@@ -83,7 +83,7 @@ value_set-same a b sets n k s = go (find q sets) refl
     go None e = refl
     go (Some item) e = All-find (λ item. Same a b item.value) q sets item s e
 
-objects_for-same : (m : Meta) (a b : Env) (sets : List SetItem) (n : ℕ) (nodes : List PatternNode) → SetsSame a b sets → objects_for m a sets n nodes ≡ objects_for m b sets n nodes
+objects_for-same : (m : Metamodel) (a b : Env) (sets : List SetItem) (n : ℕ) (nodes : List PatternNode) → SetsSame a b sets → objects_for m a sets n nodes ≡ objects_for m b sets n nodes
 objects_for-same m a b sets n [] s = refl
 objects_for-same m a b sets n (x ∷ xs) s = elim (cases_Bool (is_make x.mark)) [
   | inl e ↦ rw e (ap (λ (slots : List Slot). record { class = x.class; slots = slots } ∷ objects_for m a sets (n + 1) xs) slots ∙ ap (λ (l : List MadeObject). record { class = x.class; slots = made_slots m b sets n x.class } ∷ l) (objects_for-same m a b sets (n + 1) xs s))
@@ -114,11 +114,11 @@ abbrev Unwritten : Rule → Extension → Plan → Type 0
 Unwritten rule f p = All (λ slot. list_any (is_to (image rule.shape.nodes f.nodes slot.node) slot.kind) p.writes ≡ false) rule.shape.slots
 
 -- What the kernel's expressions see stays.
-kernel-agree : (m : Meta) (g : Graph) (p : Plan) (rule : Rule) (args : Args) (f : Extension) → All (ReadsKernel rule) (reads_in rule.wheres rule.sets) → IsPlain m g rule.shape f → Apart f.nodes p.drop_objects → Unwritten rule f p → Agree (env_of g rule args rule.shape.nodes f.nodes) (env_of (step g p) rule args rule.shape.nodes f.nodes) (reads_in rule.wheres rule.sets)
+kernel-agree : (m : Metamodel) (g : Graph) (p : Plan) (rule : Rule) (args : Args) (f : Extension) → All (ReadsKernel rule) (reads_in rule.wheres rule.sets) → IsPlain m g rule.shape f → Apart f.nodes p.drop_objects → Unwritten rule f p → Agree (env_of g rule args rule.shape.nodes f.nodes) (env_of (step g p) rule args rule.shape.nodes f.nodes) (reads_in rule.wheres rule.sets)
 kernel-agree m g p rule args f reads h stay unwritten = All-weaker (ReadsKernel rule) (λ read. value_at g (image rule.shape.nodes f.nodes read.node) (Attribute read.attribute) ≡ value_at (step g p) (image rule.shape.nodes f.nodes read.node) (Attribute read.attribute)) (λ read k. sym (value-stays m g p rule.shape.nodes f.nodes read.node (Attribute read.attribute) h.nodes_fit stay k.0 (has_slot-all (λ n kind. list_any (is_to (image rule.shape.nodes f.nodes n) kind) p.writes ≡ false) rule.shape.slots read.node (Attribute read.attribute) unwritten k.1))) (reads_in rule.wheres rule.sets) reads
 
 -- What a copy's expressions see stays.
-copy-agree : (m : Meta) (g : Graph) (p : Plan) (rule : Rule) (args : Args) (f : Extension) (copy : Copy) → All (ReadsMulti rule copy.multi) (reads_in copy.multi.wheres copy.multi.sets) → IsPlain m g rule.shape f → Extends m g rule.shape f copy.multi.shape copy.found → Apart f.nodes p.drop_objects → Apart copy.found.nodes p.drop_objects → Unwritten rule f p → LeavesKinds m p copy.multi → Agree (copy_env g rule args f copy) (copy_env (step g p) rule args f copy) (reads_in copy.multi.wheres copy.multi.sets)
+copy-agree : (m : Metamodel) (g : Graph) (p : Plan) (rule : Rule) (args : Args) (f : Extension) (copy : Copy) → All (ReadsMulti rule copy.multi) (reads_in copy.multi.wheres copy.multi.sets) → IsPlain m g rule.shape f → Extends m g rule.shape f copy.multi.shape copy.found → Apart f.nodes p.drop_objects → Apart copy.found.nodes p.drop_objects → Unwritten rule f p → LeavesKinds m p copy.multi → Agree (copy_env g rule args f copy) (copy_env (step g p) rule args f copy) (reads_in copy.multi.wheres copy.multi.sets)
 copy-agree m g p rule args f copy reads h e stay own unwritten leaves = All-weaker (ReadsMulti rule copy.multi) (λ read. value_at g (image nodes images read.node) (Attribute read.attribute) ≡ value_at (step g p) (image nodes images read.node) (Attribute read.attribute)) (λ read k. sym (value-stays m g p nodes images read.node (Attribute read.attribute) (joined m g rule.shape f copy.multi.shape copy.found h e) (All-append (Stays p.drop_objects) f.nodes copy.found.nodes stay own) k.0 (elim k.1 [
   | inl l ↦ subst (λ (i : ℕ). list_any (is_to i (Attribute read.attribute)) p.writes ≡ false) (sym (image-front (FitsNode m g) rule.shape.nodes copy.multi.shape.nodes f.nodes copy.found.nodes read.node h.nodes_fit l.0)) (has_slot-all (λ n kind. list_any (is_to (image rule.shape.nodes f.nodes n) kind) p.writes ≡ false) rule.shape.slots read.node (Attribute read.attribute) unwritten l.1)
   | inr l ↦ has_slot-all (λ n kind. list_any (is_to (image nodes images n) kind) p.writes ≡ false) copy.multi.shape.slots read.node (Attribute read.attribute) (All-weaker (λ slot. All (λ write. is_kind write.slot slot.kind ≡ false) p.writes) (λ slot. list_any (is_to (image nodes images slot.node) slot.kind) p.writes ≡ false) (λ slot k. unwritten_kind (image nodes images slot.node) slot.kind p.writes k) copy.multi.shape.slots leaves.writes) l
@@ -131,7 +131,7 @@ copy-agree m g p rule args f copy reads h e stay own unwritten leaves = All-weak
     images = f.nodes ++ copy.found.nodes
 
 -- A multi-rule keeps all its copies, and gets no new one.
-AreCopies-kept : (m : Meta) (g : Graph) (p : Plan) (rule : Rule) (args : Args) (f : Extension) (multi : Multi) (xs : List Extension) → All (ReadsMulti rule multi) (reads_in multi.wheres multi.sets) → IsPlain m g rule.shape f → Apart f.nodes p.drop_objects → All (λ x. Apart x.nodes p.drop_objects × Apart x.edges p.drop_edges) xs → Unwritten rule f p → LeavesKinds m p multi → AreCopies m g rule args f multi xs → AreCopies m (step g p) rule args f multi xs
+AreCopies-kept : (m : Metamodel) (g : Graph) (p : Plan) (rule : Rule) (args : Args) (f : Extension) (multi : Multi) (xs : List Extension) → All (ReadsMulti rule multi) (reads_in multi.wheres multi.sets) → IsPlain m g rule.shape f → Apart f.nodes p.drop_objects → All (λ x. Apart x.nodes p.drop_objects × Apart x.edges p.drop_edges) xs → Unwritten rule f p → LeavesKinds m p multi → AreCopies m g rule args f multi xs → AreCopies m (step g p) rule args f multi xs
 AreCopies-kept m g p rule args f multi xs reads h stay own unwritten leaves k = record {
   each = All-weaker (λ x. S x × C x) (IsCopy m (step g p) rule args f multi) (λ x i. (Extends-kept m g p rule.shape f multi.shape x i.0.0 i.0.1 i.1.0, AreTrue-same (env g x) (env (step g p) x) multi.wheres (trues x i.1.0 i.0.0) i.1.1)) xs (All-both S C xs own k.each);
   whole = λ x i. k.whole x (back x i);
@@ -160,7 +160,7 @@ AreCopies-kept m g p rule args f multi xs reads h stay own unwritten leaves k = 
     back x i = let e = Extends-unmade m g p rule.shape f multi.shape x leaves.makes i.0 in
         (e.0, AreTrue-same (env (step g p) x) (env g x) multi.wheres (All-weaker (Same (env g x) (env (step g p) x)) (Same (env (step g p) x) (env g x)) (λ expr s. sym s) multi.wheres (trues x e.0 e.1)) i.1)
 
-copies-kept : (m : Meta) (g : Graph) (p : Plan) (rule : Rule) (args : Args) (f : Extension) (multis : List Multi) (lists : List (List Extension)) → All (λ multi. All (ReadsMulti rule multi) (reads_in multi.wheres multi.sets)) multis → IsPlain m g rule.shape f → Apart f.nodes p.drop_objects → All (λ copy. Apart copy.found.nodes p.drop_objects × Apart copy.found.edges p.drop_edges) (copies_from multis lists) → Unwritten rule f p → All (LeavesKinds m p) multis → AllZip (AreCopies m g rule args f) multis lists → AllZip (AreCopies m (step g p) rule args f) multis lists
+copies-kept : (m : Metamodel) (g : Graph) (p : Plan) (rule : Rule) (args : Args) (f : Extension) (multis : List Multi) (lists : List (List Extension)) → All (λ multi. All (ReadsMulti rule multi) (reads_in multi.wheres multi.sets)) multis → IsPlain m g rule.shape f → Apart f.nodes p.drop_objects → All (λ copy. Apart copy.found.nodes p.drop_objects × Apart copy.found.edges p.drop_edges) (copies_from multis lists) → Unwritten rule f p → All (LeavesKinds m p) multis → AllZip (AreCopies m g rule args f) multis lists → AllZip (AreCopies m (step g p) rule args f) multis lists
 copies-kept m g p rule args f [] [] reads h stay own u leaves k = tt
 copies-kept m g p rule args f [] (xs ∷ lists) reads h stay own u leaves k = absurd k
 copies-kept m g p rule args f (multi ∷ multis) [] reads h stay own u leaves k = absurd k
@@ -173,7 +173,7 @@ copies-kept m g p rule args f (multi ∷ multis) (xs ∷ lists) reads h stay own
     )
 
 -- Each copy of a valid match is a copy of a multi-rule of the rule, of which what holds of all of them holds.
-pub copies_each : (m : Meta) (g : Graph) (rule : Rule) (args : Args) (f : Extension) (R : Multi → Type 0) (multis : List Multi) (lists : List (List Extension)) → All R multis → AllZip (AreCopies m g rule args f) multis lists → All (λ copy. R copy.multi × IsCopy m g rule args f copy.multi copy.found) (copies_from multis lists)
+pub copies_each : (m : Metamodel) (g : Graph) (rule : Rule) (args : Args) (f : Extension) (R : Multi → Type 0) (multis : List Multi) (lists : List (List Extension)) → All R multis → AllZip (AreCopies m g rule args f) multis lists → All (λ copy. R copy.multi × IsCopy m g rule args f copy.multi copy.found) (copies_from multis lists)
 copies_each m g rule args f R [] [] a k = All-nil (λ copy. R copy.multi × IsCopy m g rule args f copy.multi copy.found)
 copies_each m g rule args f R [] (xs ∷ lists) a k = absurd k
 copies_each m g rule args f R (multi ∷ multis) [] a k = absurd k
@@ -184,7 +184,7 @@ copies_each m g rule args f R (multi ∷ multis) (xs ∷ lists) a k =
     All-append C (map made xs) (copies_from multis lists) (All-map C made xs (All-weaker I (λ x. C (made x)) (λ x i. (All-head R multi multis a, i)) xs k.0.each))
     (copies_each m g rule args f R multis lists (All-tail R multi multis a) k.1)
 
-supported-kept : (m : Meta) (g : Graph) (p : Plan) (s : Shape) (f : Extension) (needs : List Part) (xs : List Extension) → Apart (flat_map (λ x. x.nodes) xs) p.drop_objects → Apart (flat_map (λ x. x.edges) xs) p.drop_edges → AllZip (λ part x. Extends m g s f (shape_of part) x) needs xs → AllZip (λ part x. Extends m (step g p) s f (shape_of part) x) needs xs
+supported-kept : (m : Metamodel) (g : Graph) (p : Plan) (s : Shape) (f : Extension) (needs : List Part) (xs : List Extension) → Apart (flat_map (λ x. x.nodes) xs) p.drop_objects → Apart (flat_map (λ x. x.edges) xs) p.drop_edges → AllZip (λ part x. Extends m g s f (shape_of part) x) needs xs → AllZip (λ part x. Extends m (step g p) s f (shape_of part) x) needs xs
 supported-kept m g p s f [] [] a b h = tt
 supported-kept m g p s f [] (x ∷ xs) a b h = absurd h
 supported-kept m g p s f (t ∷ ts) [] a b h = absurd h
@@ -195,7 +195,7 @@ supported-kept m g p s f (t ∷ ts) (x ∷ xs) a b h =
       supported-kept m g p s f ts xs (All-rest_of (Stays p.drop_objects) x.nodes ns a) (All-rest_of (Stays p.drop_edges) x.edges es b) h.1,
     )
 
-supported-present : (m : Meta) (g : Graph) (rule : Rule) (f : Extension) (needs : List Part) (xs : List Extension) → AllZip (λ part x. Extends m g rule.shape f (shape_of part) x) needs xs → All (IsPresent m g rule f) needs
+supported-present : (m : Metamodel) (g : Graph) (rule : Rule) (f : Extension) (needs : List Part) (xs : List Extension) → AllZip (λ part x. Extends m g rule.shape f (shape_of part) x) needs xs → All (IsPresent m g rule f) needs
 supported-present m g rule f [] [] h = All-nil (IsPresent m g rule f)
 supported-present m g rule f [] (x ∷ xs) h = absurd h
 supported-present m g rule f (t ∷ ts) [] h = absurd h
@@ -205,7 +205,7 @@ supported-present m g rule f (t ∷ ts) (x ∷ xs) h = All-cons (IsPresent m g r
 abbrev CopySame : Graph → Plan → Rule → Args → Extension → Copy → Type 0
 CopySame g p rule args f copy = SetsSame (copy_env g rule args f copy) (copy_env (step g p) rule args f copy) copy.multi.sets
 
-copies-same_sets : (m : Meta) (g : Graph) (p : Plan) (rule : Rule) (args : Args) (f : Match) (supports : List Extension) → IsRule m rule → IsSupported m g rule args f supports → Spares m g p rule f supports → All (CopySame g p rule args (kernel_of f)) (copies_of rule f)
+copies-same_sets : (m : Metamodel) (g : Graph) (p : Plan) (rule : Rule) (args : Args) (f : Match) (supports : List Extension) → IsRule m rule → IsSupported m g rule args f supports → Spares m g p rule f supports → All (CopySame g p rule args (kernel_of f)) (copies_of rule f)
 copies-same_sets m g p rule args f supports w v l = All-weaker (λ copy. (R copy.multi × IsCopy m g rule args k copy.multi copy.found) × Apart copy.found.nodes p.drop_objects) (CopySame g p rule args k) (λ copy i. sets-same (copy_env g rule args k copy) (copy_env (step g p) rule args k copy) (λ n. refl) copy.multi.wheres copy.multi.sets (copy-agree m g p rule args k copy i.0.0.0 v.valid.plain i.0.1.0 stay i.1 l.slots i.0.0.1)) copies
     (All-both (λ copy. R copy.multi × IsCopy m g rule args k copy.multi copy.found) (λ copy. Apart copy.found.nodes p.drop_objects) copies (copies_each m g rule args k R rule.multis f.copies (All-both (λ multi. All (ReadsMulti rule multi) (reads_in multi.wheres multi.sets)) (LeavesKinds m p) rule.multis (multi_read m rule w) l.multis) v.valid.copies) (All-of_flat_map (Stays p.drop_objects) (λ copy. copy.found.nodes) copies (All-rest_of (Stays p.drop_objects) f.nodes ns nodes)))
   where
@@ -228,7 +228,7 @@ copies-same_sets m g p rule args f supports w v l = All-weaker (λ copy. (R copy
     R multi = All (ReadsMulti rule multi) (reads_in multi.wheres multi.sets) × LeavesKinds m p multi
 
 -- The theorem: a plan that spares a supported match leaves it supported.
-pub IsSupported-kept : (m : Meta) (g : Graph) (p : Plan) (rule : Rule) (args : Args) (f : Match) (supports : List Extension) → IsRule m rule → IsSupported m g rule args f supports → Spares m g p rule f supports → IsSupported m (step g p) rule args f supports
+pub IsSupported-kept : (m : Metamodel) (g : Graph) (p : Plan) (rule : Rule) (args : Args) (f : Match) (supports : List Extension) → IsRule m rule → IsSupported m g rule args f supports → Spares m g p rule f supports → IsSupported m (step g p) rule args f supports
 IsSupported-kept m g p rule args f supports w v l = record {
   valid = record {
     plain = Extends-kept m g p no_shape no_match rule.shape k stay (All-front (Stays p.drop_edges) f.edges es edges) h;
@@ -286,7 +286,7 @@ IsSupported-kept m g p rule args f supports w v l = record {
     named node n (Some name) d i = name_at-kept g p n name d i
 
 -- And with the same plan.
-pub plan_of-kept : (m : Meta) (g : Graph) (p : Plan) (rule : Rule) (args : Args) (f : Match) (supports : List Extension) → IsRule m rule → IsSupported m g rule args f supports → Spares m g p rule f supports → plan_of m (step g p) rule args f ≡ plan_of m g rule args f
+pub plan_of-kept : (m : Metamodel) (g : Graph) (p : Plan) (rule : Rule) (args : Args) (f : Match) (supports : List Extension) → IsRule m rule → IsSupported m g rule args f supports → Spares m g p rule f supports → plan_of m (step g p) rule args f ≡ plan_of m g rule args f
 plan_of-kept m g p rule args f supports w v l = sym (rw (writes_of-same before after rule.shape.nodes f.nodes rule.sets sets, flat_map-same (copy_writes g rule args k) (copy_writes (step g p) rule args k) copies written, objects_for-same m before after rule.sets 0 rule.shape.nodes sets, flat_map-same (copy_objects m g rule args k) (copy_objects m (step g p) rule args k) copies made) refl)
   where
     k : Extension

@@ -5,7 +5,7 @@ use Rattle.std.proofs.lemmas.List.Elements.{All-nil, All-cons, All-weaker}
 use Rattle.hs_types.specs.declared.graph.Graph.{Graph}
 use Rattle.hs_types.specs.declared.matching.Extension.{Extension}
 use Rattle.hs_types.specs.declared.matching.Match.{Match}
-use Rattle.hs_types.specs.declared.meta.Meta.{Meta}
+use Rattle.hs_types.specs.declared.meta.Metamodel.{Metamodel}
 use Rattle.hs_types.specs.declared.request.Args.{Args}
 use Rattle.hs_types.specs.declared.rule.PatternNode.{PatternNode}
 use Rattle.hs_types.specs.declared.rule.Rule.{Rule}
@@ -22,12 +22,12 @@ use Rattle.hs_laws.proofs.Lists.{All-both, Apart-other_way, Differ-across, Diffe
 use Rattle.hs_laws.proofs.Spared.{copies_each}
 
 -- What is known of each copy of a valid match.
-pub record CopyIs (m : Meta) (g : Graph) (rule : Rule) (args : Args) (f : Extension) (copy : Copy) : Type 0 where
+pub record CopyIs (m : Metamodel) (g : Graph) (rule : Rule) (args : Args) (f : Extension) (copy : Copy) : Type 0 where
   pub multi : IsMulti m rule copy.multi
   pub extends : IsCopy m g rule args f copy.multi copy.found
   pub sets_fit : AreFit m (copy_env g rule args f copy) copy.multi.sets
 
-pub copies_are : (m : Meta) (g : Graph) (rule : Rule) (args : Args) (f : Match) → IsRule m rule → IsValid m g rule args f → All (CopyIs m g rule args (kernel_of f)) (copies_of rule f)
+pub copies_are : (m : Metamodel) (g : Graph) (rule : Rule) (args : Args) (f : Match) → IsRule m rule → IsValid m g rule args f → All (CopyIs m g rule args (kernel_of f)) (copies_of rule f)
 copies_are m g rule args f w v = All-weaker (λ copy. (IsMulti m rule copy.multi × IsCopy m g rule args (kernel_of f) copy.multi copy.found) × CopyFits m g rule args (kernel_of f) copy) (CopyIs m g rule args (kernel_of f)) (λ copy i. record { multi = i.0.0; extends = i.0.1; sets_fit = i.1 }) (copies_of rule f) (All-both (λ copy. IsMulti m rule copy.multi × IsCopy m g rule args (kernel_of f) copy.multi copy.found) (CopyFits m g rule args (kernel_of f)) (copies_of rule f) (copies_each m g rule args (kernel_of f) (IsMulti m rule) rule.multis f.copies w.multis v.copies) v.copies_fit)
 
 abbrev dropped_by : Copy → List ℕ
@@ -37,11 +37,11 @@ dropped-had : (copy : Copy) (n : ℕ) → has (dropped_by copy) n ≡ true → h
 dropped-had copy n h = beside-has (λ node. is_drop node.mark) (left_nodes copy.multi.shape.nodes) copy.found.nodes n h
 
 -- No copy drops what the kernel has.
-pub copies_spare_kernel : (m : Meta) (g : Graph) (rule : Rule) (args : Args) (f : Match) → IsRule m rule → IsValid m g rule args f → (n : ℕ) → has f.nodes n ≡ true → has (flat_map dropped_by (copies_of rule f)) n ≡ false
+pub copies_spare_kernel : (m : Metamodel) (g : Graph) (rule : Rule) (args : Args) (f : Match) → IsRule m rule → IsValid m g rule args f → (n : ℕ) → has f.nodes n ≡ true → has (flat_map dropped_by (copies_of rule f)) n ≡ false
 copies_spare_kernel m g rule args f w v n h = has-flat_map_none dropped_by (copies_of rule f) n (All-weaker (CopyIs m g rule args (kernel_of f)) (λ copy. has (dropped_by copy) n ≡ false) (λ copy i. has_not (dropped_by copy) copy.found.nodes n (dropped-had copy) (Differ-across f.nodes copy.found.nodes n i.extends.0.nodes_differ h)) (copies_of rule f) (copies_are m g rule args f w v))
 
 -- The image of a kept node of the kernel stays.
-pub kernel_stays : (m : Meta) (g : Graph) (rule : Rule) (args : Args) (f : Match) → IsRule m rule → IsValid m g rule args f → (n : ℕ) (x : PatternNode) → slice_get rule.shape.nodes n ≡ Some x → is_left x.mark ≡ true → is_drop x.mark ≡ false → has (all_dropped_nodes rule f) (image rule.shape.nodes f.nodes n) ≡ false
+pub kernel_stays : (m : Metamodel) (g : Graph) (rule : Rule) (args : Args) (f : Match) → IsRule m rule → IsValid m g rule args f → (n : ℕ) (x : PatternNode) → slice_get rule.shape.nodes n ≡ Some x → is_left x.mark ≡ true → is_drop x.mark ≡ false → has (all_dropped_nodes rule f) (image rule.shape.nodes f.nodes n) ≡ false
 kernel_stays m g rule args f w v n x e left kept =
     let o : ℕ = image rule.shape.nodes f.nodes n in
     has-neither o (dropped_nodes rule.shape (kernel_of f)) (flat_map dropped_by (copies_of rule f))
@@ -62,7 +62,7 @@ copies_spare rule f (c ∷ cs) p = All-cons (SparedBy (c ∷ cs)) c cs
 abbrev pub CopyStays : Rule → Match → Copy → Type 0
 CopyStays rule f copy = (n : ℕ) (x : PatternNode) → length rule.shape.nodes ≤ n → slice_get (rule.shape.nodes ++ copy.multi.shape.nodes) n ≡ Some x → is_left x.mark ≡ true → is_drop x.mark ≡ false → has (all_dropped_nodes rule f) (image (rule.shape.nodes ++ copy.multi.shape.nodes) (f.nodes ++ copy.found.nodes) n) ≡ false
 
-pub copies_stay : (m : Meta) (g : Graph) (rule : Rule) (args : Args) (f : Match) → IsRule m rule → IsValid m g rule args f → All (CopyStays rule f) (copies_of rule f)
+pub copies_stay : (m : Metamodel) (g : Graph) (rule : Rule) (args : Args) (f : Match) → IsRule m rule → IsValid m g rule args f → All (CopyStays rule f) (copies_of rule f)
 copies_stay m g rule args f w v = All-weaker (λ copy. CopyIs m g rule args (kernel_of f) copy × SparedBy (copies_of rule f) copy) (CopyStays rule f) each (copies_of rule f) (All-both (CopyIs m g rule args (kernel_of f)) (SparedBy (copies_of rule f)) (copies_of rule f) (copies_are m g rule args f w v) (copies_spare rule (kernel_of f) (copies_of rule f) v.none_touch))
   where
     each : (copy : Copy) → CopyIs m g rule args (kernel_of f) copy × SparedBy (copies_of rule f) copy → CopyStays rule f copy

@@ -8,7 +8,7 @@ use Rattle.hs_types.specs.declared.graph.Edge.{Edge}
 use Rattle.hs_types.specs.declared.graph.Graph.{Graph}
 use Rattle.hs_types.specs.declared.graph.Object.{Object}
 use Rattle.hs_types.specs.declared.graph.Slot.{Slot}
-use Rattle.hs_types.specs.declared.meta.Meta.{Meta}
+use Rattle.hs_types.specs.declared.meta.Metamodel.{Metamodel}
 use Rattle.hs_types.specs.declared.plan.End.{End}
 use Rattle.hs_types.specs.declared.plan.End.TheVariants.{Old, New}
 use Rattle.hs_types.specs.declared.plan.MadeEdge.{MadeEdge}
@@ -38,7 +38,7 @@ attributes_written ws n [] = refl
 attributes_written ws n (s ∷ ss) = ap (λ l. s.attribute ∷ l) (attributes_written ws n ss)
 
 -- The slots of a rewritten object are those of its class.
-slots_written : (m : Meta) (ws : List Write) (o : Object) → All (λ w. SlotFits m w.slot w.value) ws → AreSlotsOf m o.class o.slots → AreSlotsOf m o.class (map (written ws o.number) o.slots)
+slots_written : (m : Metamodel) (ws : List Write) (o : Object) → All (λ w. SlotFits m w.slot w.value) ws → AreSlotsOf m o.class o.slots → AreSlotsOf m o.class (map (written ws o.number) o.slots)
 slots_written m ws o fit h = (
   h.0,
   attributes_written ws o.number o.slots ∙ h.1,
@@ -55,7 +55,7 @@ slots_written m ws o fit h = (
         let same : w.slot ≡ Attribute s.attribute = is_kind-same w.slot (Attribute s.attribute) at.1 in
         subst (λ (k : SlotKind). SlotFits m k w.value) same (All-find (λ w. SlotFits m w.slot w.value) (is_to o.number (Attribute s.attribute)) ws w fit e)
 
-made_fit : (m : Meta) (n k : ℕ) (os : List MadeObject) → All (λ o. AreSlotsOf m o.class o.slots) os → All (λ o. AreSlotsOf m o.class o.slots) (new_objects n k os)
+made_fit : (m : Metamodel) (n k : ℕ) (os : List MadeObject) → All (λ o. AreSlotsOf m o.class o.slots) os → All (λ o. AreSlotsOf m o.class o.slots) (new_objects n k os)
 made_fit m n k [] a = All-nil (λ o. AreSlotsOf m o.class o.slots)
 made_fit m n k (o ∷ os) a = All-cons (λ o. AreSlotsOf m o.class o.slots) (record { number = n; name = hash_name k; class = o.class; slots = o.slots }) (new_objects (n + 1) (k + 1) os) (All-head (λ o. AreSlotsOf m o.class o.slots) o os a) (made_fit m (n + 1) (k + 1) os (All-tail (λ o. AreSlotsOf m o.class o.slots) o os a))
 
@@ -66,7 +66,7 @@ made_at P n k zero (o ∷ os) h = let e : eqb n (n + 0) ≡ true = eq-eqb n (n +
 made_at P n k (suc i) (o ∷ os) h = let e : eqb n (n + suc i) ≡ false = ne_eqb n (n + suc i) (λ e. omega arith) in let s : n + suc i ≡ (n + 1) + i = omega arith in rw e (subst (λ (j : ℕ). IsSomeAnd (find (λ o. eqb o.number j) (new_objects (n + 1) (k + 1) os)) (λ o. P o.class)) (sym s) (made_at P (n + 1) (k + 1) i os h))
 
 -- An end of a made edge stands after the step.
-end_stands : (m : Meta) (g : Graph) (p : Plan) (P : ℕ → Type 0) (x : End) → IsTyped m g → EndIs g p P x → Stands (step g p) P (number_of g.next_object x)
+end_stands : (m : Metamodel) (g : Graph) (p : Plan) (P : ℕ → Type 0) (x : End) → IsTyped m g → EndIs g p P x → Stands (step g p) P (number_of g.next_object x)
 end_stands m g p P (Old n) t h = Stands-kept P g p n h.1 h.0
 end_stands m g p P (New i) t h =
     let n : ℕ = g.next_object + i in
@@ -75,7 +75,7 @@ end_stands m g p P (New i) t h =
     let new : Q (find (λ o. eqb o.number n) (new_objects g.next_object g.next_name p.make_objects)) = made_at P g.next_object g.next_name i p.make_objects h in
     subst Q (sym (object_at-step g p n)) (elim (cases_Bool (has p.drop_objects n)) [ inl d ↦ rw d new | inr d ↦ rw (d, none) new ])
 
-edge_kept : (m : Meta) (g : Graph) (p : Plan) (e : Edge) → has p.drop_edges e.number ≡ false → ((has p.drop_objects e.source || has p.drop_objects e.target) ≡ true → has p.drop_edges e.number ≡ true) → CanJoin m g e.source e.reference e.target → CanJoin m (step g p) e.source e.reference e.target
+edge_kept : (m : Metamodel) (g : Graph) (p : Plan) (e : Edge) → has p.drop_edges e.number ≡ false → ((has p.drop_objects e.source || has p.drop_objects e.target) ≡ true → has p.drop_edges e.number ≡ true) → CanJoin m g e.source e.reference e.target → CanJoin m (step g p) e.source e.reference e.target
 edge_kept m g p e stays dangles h = (Stands-kept (λ c. has (features_of m c) e.reference ≡ true) g p e.source source h.0, go (target_of m e.reference) h.1)
   where
     source : has p.drop_objects e.source ≡ false
@@ -88,7 +88,7 @@ edge_kept m g p e stays dangles h = (Stands-kept (λ c. has (features_of m c) e.
     go None h = h
     go (Some class) h = Stands-kept (λ c. Conforms m c class) g p e.target target h
 
-edges_made : (m : Meta) (g : Graph) (p : Plan) → IsTyped m g → (n : ℕ) (es : List MadeEdge) → All (CanBeMade m g p) es → All (λ e. CanJoin m (step g p) e.source e.reference e.target) (new_edges g.next_object n es)
+edges_made : (m : Metamodel) (g : Graph) (p : Plan) → IsTyped m g → (n : ℕ) (es : List MadeEdge) → All (CanBeMade m g p) es → All (λ e. CanJoin m (step g p) e.source e.reference e.target) (new_edges g.next_object n es)
 edges_made m g p t n [] a = All-nil (λ e. CanJoin m (step g p) e.source e.reference e.target)
 edges_made m g p t n (e ∷ es) a =
     let h : CanBeMade m g p e = All-head (CanBeMade m g p) e es a in
@@ -99,13 +99,13 @@ edges_made m g p t n (e ∷ es) a =
     go (Some class) h = end_stands m g p (λ c. Conforms m c class) e.target t h
 
 -- What a step needs of a plan to lead to a typed graph.
-pub record Carries (m : Meta) (g : Graph) (p : Plan) : Type 0 where
+pub record Carries (m : Metamodel) (g : Graph) (p : Plan) : Type 0 where
   pub none_dangle : NoneDangle p.drop_objects p.drop_edges g
   pub values_fit : All (λ write. SlotFits m write.slot write.value) p.writes
   pub objects_fit : All (λ object. AreSlotsOf m object.class object.slots) p.make_objects
   pub edges_fit : All (CanBeMade m g p) p.make_edges
 
-pub IsTyped-step : (m : Meta) (g : Graph) (p : Plan) → IsTyped m g → Carries m g p → IsTyped m (step g p)
+pub IsTyped-step : (m : Metamodel) (g : Graph) (p : Plan) → IsTyped m g → Carries m g p → IsTyped m (step g p)
 IsTyped-step m g p t f = record {
   objects_rise = subst (λ (l : List ℕ). Rise 0 l (g.next_object + length p.make_objects)) (sym numbers) (Rise-append 0 (map (λ o. o.number) kept) g.next_object (map (λ o. o.number) made) (g.next_object + length p.make_objects) (Rise-filter (λ o. o.number) (λ o. not (has p.drop_objects o.number)) 0 g.objects g.next_object t.objects_rise) (new_objects-rise g.next_object g.next_name p.make_objects));
   edges_rise = subst (λ (l : List ℕ). Rise 0 l (g.next_edge + length p.make_edges)) (sym (map-append (λ e. e.number) kept_edges (new_edges g.next_object g.next_edge p.make_edges))) (Rise-append 0 (map (λ e. e.number) kept_edges) g.next_edge (map (λ e. e.number) (new_edges g.next_object g.next_edge p.make_edges)) (g.next_edge + length p.make_edges) (Rise-filter (λ e. e.number) (λ e. not (has p.drop_edges e.number)) 0 g.edges g.next_edge t.edges_rise) (new_edges-rise g.next_object g.next_edge p.make_edges));

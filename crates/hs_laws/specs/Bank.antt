@@ -18,7 +18,7 @@ use Rattle.hs_types.specs.declared.matching.Extension.{Extension}
 use Rattle.hs_types.specs.declared.matching.Match.{Match}
 use Rattle.hs_types.specs.declared.meta.DataType.TheVariants.{EInt}
 use Rattle.hs_types.specs.declared.meta.FeatureKind.TheVariants.{Attribute, Reference}
-use Rattle.hs_types.specs.declared.meta.Meta.{Meta}
+use Rattle.hs_types.specs.declared.meta.Metamodel.{Metamodel}
 use Rattle.hs_types.specs.declared.request.Arg.TheVariants as arg
 use Rattle.hs_types.specs.declared.request.Args.{Args}
 use Rattle.hs_types.specs.declared.request.NamedArg.{NamedArg}
@@ -37,7 +37,7 @@ use Rattle.hs_types.specs.declared.rule.Shape.{Shape}
 use Rattle.hs_types.specs.declared.rule.SlotKind.TheVariants as slot
 
 -- Client is class 0, Account class 1; accounts is feature 0, balance 1, owner 2.
-abbrev pub model : Meta
+abbrev pub model : Metamodel
 model = record {
   format = 1;
   classes = record { name = codes "Client"; is_abstract = false; supers = []; features = 0 ∷ [] }

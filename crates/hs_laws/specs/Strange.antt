@@ -2,18 +2,18 @@
 use Rattle.std.specs.Prelude.{ℕ, List, [], ◌∷◌, true, false, codes}
 use Rattle.hs_types.specs.declared.graph.Graph.{Graph}
 use Rattle.hs_types.specs.declared.graph.Object.{Object}
-use Rattle.hs_types.specs.declared.meta.Meta.{Meta}
+use Rattle.hs_types.specs.declared.meta.Metamodel.{Metamodel}
 use Rattle.hs_types.specs.declared.plan.Plan.{Plan}
 use Rattle.hs_types.specs.declared.rule.Mark.TheVariants.{Drop, Keep, Make}
 use Rattle.hs_types.specs.declared.rule.Rule.{Rule}
 use Rattle.hs_laws.specs.Bank.{add, arrow, client, kernel, link, node, rule}
 
 -- A class that is its own supertype.
-abbrev pub looped : Meta
+abbrev pub looped : Metamodel
 looped = record { format = 1; classes = record { name = codes "A"; is_abstract = false; supers = 0 ∷ []; features = [] } ∷ []; features = [] }
 
 -- An abstract class A, and a class B below it.
-abbrev pub family : Meta
+abbrev pub family : Metamodel
 family = record { format = 1; classes = record { name = codes "A"; is_abstract = true; supers = []; features = [] } ∷ record { name = codes "B"; is_abstract = false; supers = 0 ∷ []; features = [] } ∷ []; features = [] }
 
 abbrev pub only : Object → Graph

@@ -6,7 +6,7 @@ ghost use Rattle.hs_expr.specs.Evaluation.{Env, value_of};
 ghost use Rattle.hs_types.specs.declared.entry.Cause.TheVariants as cause;
 ghost use Rattle.hs_types.specs.declared.unit.RuleSet.{RuleSet};
 ghost use Rattle.hs_types.specs.declared.graph.Graph.{Graph};
-ghost use Rattle.hs_types.specs.declared.meta.Meta.{Meta};
+ghost use Rattle.hs_types.specs.declared.meta.Metamodel.{Metamodel};
 ghost use Rattle.hs_types.specs.declared.meta.DataType.TheVariants.{EInt};
 ghost use Rattle.hs_types.specs.Metamodel.{Conforms, HaveCommon, IsMeta, is_of_type};
 ghost use Rattle.hs_types.specs.RuleForm.{IsRule};

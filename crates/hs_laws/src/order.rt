@@ -2,7 +2,7 @@ ghost use Rattle.std.specs.Prelude.{◌≡◌, ◌⊎◌, ◌++◌, ℕ, Option,
 ghost use Rattle.hs_types.specs.declared.graph.Graph.{Graph};
 ghost use Rattle.hs_types.specs.declared.matching.Extension.{Extension};
 ghost use Rattle.hs_types.specs.declared.matching.Match.{Match};
-ghost use Rattle.hs_types.specs.declared.meta.Meta.{Meta};
+ghost use Rattle.hs_types.specs.declared.meta.Metamodel.{Metamodel};
 ghost use Rattle.hs_types.specs.declared.request.Args.{Args};
 ghost use Rattle.hs_types.specs.declared.rule.Rule.{Rule};
 ghost use Rattle.hs_types.specs.MatchOrder.{IsBefore, IsEarlier};
@@ -23,10 +23,10 @@ pub fn order_is_total()
 /// A valid match is determined by its kernel, and the answer to a search by the graph, the rule and
 /// the arguments.
 pub fn least_is_unique()
-    ensures by_kernel { (m : Meta) (g : Graph) (rule : Rule) (args : Args) (f h : Match)
+    ensures by_kernel { (m : Metamodel) (g : Graph) (rule : Rule) (args : Args) (f h : Match)
         → IsValid m g rule args f → IsValid m g rule args h → kernel_of f ≡ kernel_of h → f ≡ h }
-    ensures least { (m : Meta) (g : Graph) (rule : Rule) (args : Args) (f h : Match)
+    ensures least { (m : Metamodel) (g : Graph) (rule : Rule) (args : Args) (f h : Match)
         → IsLeast m g rule args f → IsLeast m g rule args h → f ≡ h }
-    ensures first { (m : Meta) (g : Graph) (rule : Rule) (args : Args) (a b : Option Match)
+    ensures first { (m : Metamodel) (g : Graph) (rule : Rule) (args : Args) (a b : Option Match)
         → IsFirst m g rule args a → IsFirst m g rule args b → a ≡ b }
 {}

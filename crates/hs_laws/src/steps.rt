@@ -4,7 +4,7 @@ ghost use Rattle.hs_types.specs.declared.graph.Edge.{Edge};
 ghost use Rattle.hs_types.specs.declared.graph.Graph.{Graph};
 ghost use Rattle.hs_types.specs.declared.graph.Object.{Object};
 ghost use Rattle.hs_types.specs.declared.matching.Match.{Match};
-ghost use Rattle.hs_types.specs.declared.meta.Meta.{Meta};
+ghost use Rattle.hs_types.specs.declared.meta.Metamodel.{Metamodel};
 ghost use Rattle.hs_types.specs.declared.plan.Plan.{Plan};
 ghost use Rattle.hs_types.specs.declared.request.Args.{Args};
 ghost use Rattle.hs_types.specs.declared.rule.Rule.{Rule};
@@ -23,7 +23,7 @@ ghost use Rattle.hs_types.specs.ValidMatch.{IsValid, all_dropped_edges, all_drop
 /// classes of objects and of edges' ends still fit, names still differ, and the next numbers only
 /// grew.
 pub fn steps_stay_typed()
-    ensures typed { (m : Meta) (g : Graph) (rule : Rule) (args : Args) (f : Match)
+    ensures typed { (m : Metamodel) (g : Graph) (rule : Rule) (args : Args) (f : Match)
         → IsMeta m → IsRule m rule → IsTyped m g → IsValid m g rule args f
         → IsTyped m (step g (plan_of m g rule args f)) }
     ensures next_object { (g : Graph) (plan : Plan)
@@ -37,7 +37,7 @@ pub fn steps_stay_typed()
 /// The plan of a valid match can be carried out in its graph: what it drops and writes is there, each
 /// once, and what it makes is such as a typed graph has.
 pub fn plans_fit()
-    ensures { (m : Meta) (g : Graph) (rule : Rule) (args : Args) (f : Match)
+    ensures { (m : Metamodel) (g : Graph) (rule : Rule) (args : Args) (f : Match)
         → IsMeta m → IsRule m rule → IsTyped m g → IsValid m g rule args f
         → Fits m g (plan_of m g rule args f) }
 {}

@@ -4,4 +4,3 @@ pub mod Faults
 pub mod Answers
 pub mod Meaning
 pub mod Samples
-pub mod Rows

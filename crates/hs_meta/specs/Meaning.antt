@@ -10,7 +10,7 @@ use Rattle.hs_types.specs.declared.meta.DataType.{DataType}
 use Rattle.hs_types.specs.declared.meta.DataType.TheVariants.{EInt, ELong, EBoolean, EString}
 use Rattle.hs_types.specs.declared.meta.Feature.{Feature}
 use Rattle.hs_types.specs.declared.meta.FeatureKind.TheVariants.{Attribute, Reference}
-use Rattle.hs_types.specs.declared.meta.Meta.{Meta}
+use Rattle.hs_types.specs.declared.meta.Metamodel.{Metamodel}
 use Rattle.hs_types.specs.Lists.{each_once}
 use Rattle.hs_meta.specs.declared.raw.RawAttribute.{RawAttribute}
 use Rattle.hs_meta.specs.declared.raw.RawClass.{RawClass}
@@ -78,5 +78,5 @@ abbrev pub class_of : List RawClass → ℕ → RawClass → Class
 class_of classes c class = record { name = class.name; is_abstract = class.is_abstract; supers = direct_supers classes class; features = features_within classes (length classes) c }
 
 -- Classes and features are numbered in written order. No chain of supertypes is longer than there are classes.
-abbrev pub meant : RawMeta → Meta
+abbrev pub meant : RawMeta → Metamodel
 meant raw = record { format = raw.format; classes = each (λ c class. class_of raw.classes c class ∷ []) raw.classes; features = each (own_features raw.classes) raw.classes }

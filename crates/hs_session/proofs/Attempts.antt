@@ -6,7 +6,7 @@ use Rattle.hs_types.specs.declared.entry.Cause.TheVariants as cause
 use Rattle.hs_types.specs.declared.entry.MatchNames.{MatchNames}
 use Rattle.hs_types.specs.declared.graph.Graph.{Graph}
 use Rattle.hs_types.specs.declared.matching.Match.{Match}
-use Rattle.hs_types.specs.declared.meta.Meta.{Meta}
+use Rattle.hs_types.specs.declared.meta.Metamodel.{Metamodel}
 use Rattle.hs_types.specs.declared.plan.Plan.{Plan}
 use Rattle.hs_types.specs.declared.rule.Rule.{Rule}
 use Rattle.hs_types.specs.Journal.{AppliedAsks, IsWithinNumbers, gone_objects, match_named, new_names, old_values}
@@ -20,13 +20,13 @@ use Rattle.hs_apply.specs.Additions.{OnlyMakes}
 use Rattle.hs_laws.proofs.Fitting.{plan-fits}
 use Rattle.hs_session.specs.Runnable.{HasRoom, IsRunnable}
 
-pub fits_here : (m : Meta) (g : Graph) (rule : Rule) (f : Match) (plan : Plan) → plan ≡ plan_of m g rule no_args f → IsMeta m → IsTyped m g → IsRunnable m g rule → IsValid m g rule no_args f → Fits m g plan
+pub fits_here : (m : Metamodel) (g : Graph) (rule : Rule) (f : Match) (plan : Plan) → plan ≡ plan_of m g rule no_args f → IsMeta m → IsTyped m g → IsRunnable m g rule → IsValid m g rule no_args f → Fits m g plan
 fits_here m g rule f plan same meta typed runs valid = rw same (plan-fits m g rule no_args f meta runs.well_formed typed valid)
 
 pub within_numbers : (g : Graph) (rule : Rule) (plan : Plan) → HasRoom g rule → length plan.make_objects ≤ length rule.shape.nodes → length plan.make_edges ≤ length rule.shape.edges → IsWithinNumbers (step g plan)
 within_numbers g rule plan room objects edges = (omega (arith, room.objects, objects), omega (arith, room.edges, edges))
 
-pub applied_asks : (m : Meta) (g : Graph) (rule : Rule) (f : Match) (plan : Plan) (found : MatchNames) (new : List (List ℕ)) →
+pub applied_asks : (m : Metamodel) (g : Graph) (rule : Rule) (f : Match) (plan : Plan) (found : MatchNames) (new : List (List ℕ)) →
     plan ≡ plan_of m g rule no_args f → OnlyMakes plan → IsValid m g rule no_args f → match_named g found ≡ Some f → new ≡ new_names g plan → IsWithinNumbers (step g plan) →
     (asked : Cause) → AppliedAsks m g rule no_args found new [] [] asked
 applied_asks m g rule f plan found new same only valid named names within cause.Number = tt
@@ -37,7 +37,7 @@ applied_asks m g rule f plan found new same only valid named names within cause.
 applied_asks m g rule f plan found new same only valid named names within cause.Old = rw named (subst (λ (p : Plan). ([] ≡ old_values g p) × ([] ≡ gone_objects g p)) same (rw (only.slots_stay, only.objects_stay) (refl, refl)))
 
 -- The graph after it.
-pub after_applied : (m : Meta) (g h : Graph) (rule : Rule) (f : Match) (plan : Plan) (found : MatchNames) →
+pub after_applied : (m : Metamodel) (g h : Graph) (rule : Rule) (f : Match) (plan : Plan) (found : MatchNames) →
     plan ≡ plan_of m g rule no_args f → match_named g found ≡ Some f → h ≡ step g plan →
     h ≡ unwrap_or (option_map (λ f. step g (plan_of m g rule no_args f)) (match_named g found)) g
 after_applied m g h rule f plan found same named after = rw named (after ∙ ap (step g) same)

@@ -10,7 +10,7 @@ use Rattle.hs_types.specs.declared.entry.Tried.{Tried}
 use Rattle.hs_types.specs.declared.graph.Graph.{Graph}
 use Rattle.hs_types.specs.declared.graph.ListGraph.{ListGraph}
 use Rattle.hs_types.specs.declared.matching.Match.{Match}
-use Rattle.hs_types.specs.declared.meta.Meta.{Meta}
+use Rattle.hs_types.specs.declared.meta.Metamodel.{Metamodel}
 use Rattle.hs_types.specs.declared.plan.Plan.{Plan}
 use Rattle.hs_types.specs.declared.request.Request.{Request}
 use Rattle.hs_types.specs.declared.rule.Rule.{Rule}
@@ -36,11 +36,11 @@ use Rattle.hs_session.proofs.Served.{Made, first_reply, serial_one}
 names_at : Graph → Match → MatchNames
 names_at g f = record { nodes = filter_map (name_at g) f.nodes; edges = f.edges; copies = [] }
 
-outcome_of : Meta → Graph → Rule → Option Match → Outcome
+outcome_of : Metamodel → Graph → Rule → Option Match → Outcome
 outcome_of m g rule None = Missed
 outcome_of m g rule (Some f) = Applied (names_at g f) (new_names g (plan_of m g rule no_args f)) [] []
 
-told_missed : (m : Meta) (g : Graph) (rule : Rule) → NoneIsValid m g rule no_args → (asked : Cause) → OutcomeAsks m g rule no_args Missed asked
+told_missed : (m : Metamodel) (g : Graph) (rule : Rule) → NoneIsValid m g rule no_args → (asked : Cause) → OutcomeAsks m g rule no_args Missed asked
 told_missed m g rule none cause.Number = tt
 told_missed m g rule none cause.Rule = tt
 told_missed m g rule none cause.Match = tt
@@ -48,7 +48,7 @@ told_missed m g rule none cause.Valid = none
 told_missed m g rule none cause.New = tt
 told_missed m g rule none cause.Old = tt
 
-told : (m : Meta) (g : Graph) (rule : Rule) (answer : Option Match) → IsTyped m g → IsRunnable m g rule → IsFirst m g rule no_args answer → (asked : Cause) → OutcomeAsks m g rule no_args (outcome_of m g rule answer) asked
+told : (m : Metamodel) (g : Graph) (rule : Rule) (answer : Option Match) → IsTyped m g → IsRunnable m g rule → IsFirst m g rule no_args answer → (asked : Cause) → OutcomeAsks m g rule no_args (outcome_of m g rule answer) asked
 unfolding outcome_of names_at
 told m g rule None typed runs none = told_missed m g rule none
 told m g rule (Some f) typed runs least =
@@ -57,7 +57,7 @@ told m g rule (Some f) typed runs least =
     let edges : length (plan_of m g rule no_args f).make_edges ≤ length rule.shape.edges = subst (λ (p : Plan). length p.make_edges ≤ length rule.shape.edges) (sym (plan_adds m g rule f runs.only_adds)) (few_edges _ rule.shape.edges) in
     applied_asks m g rule f (plan_of m g rule no_args f) (names_at g f) (new_names g (plan_of m g rule no_args f)) refl only least.valid (named_again m g rule f typed runs.only_adds.multis least.valid) refl (within_numbers g rule (plan_of m g rule no_args f) runs.room objects edges)
 
-least_of : (m : Meta) (g : Graph) (rule : Rule) (answer : Option Match) → IsTyped m g → IsRunnable m g rule → IsFirst m g rule no_args answer → IsLeastOutcome m g rule no_args (outcome_of m g rule answer)
+least_of : (m : Metamodel) (g : Graph) (rule : Rule) (answer : Option Match) → IsTyped m g → IsRunnable m g rule → IsFirst m g rule no_args answer → IsLeastOutcome m g rule no_args (outcome_of m g rule answer)
 unfolding outcome_of names_at
 least_of m g rule None typed runs none = tt
 least_of m g rule (Some f) typed runs least = rw (named_again m g rule f typed runs.only_adds.multis least.valid) least

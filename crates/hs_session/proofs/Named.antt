@@ -10,7 +10,7 @@ use Rattle.hs_types.specs.declared.graph.Graph.{Graph}
 use Rattle.hs_types.specs.declared.graph.Object.{Object}
 use Rattle.hs_types.specs.declared.matching.Extension.{Extension}
 use Rattle.hs_types.specs.declared.matching.Match.{Match}
-use Rattle.hs_types.specs.declared.meta.Meta.{Meta}
+use Rattle.hs_types.specs.declared.meta.Metamodel.{Metamodel}
 use Rattle.hs_types.specs.declared.rule.Multi.{Multi}
 use Rattle.hs_types.specs.declared.rule.PatternNode.{PatternNode}
 use Rattle.hs_types.specs.declared.rule.Rule.{Rule}
@@ -51,7 +51,7 @@ object-again g p x differ e = ap (option_map (λ o. o.number)) (found_again (λ 
 abbrev Stands-at : Graph → ℕ → Type 0
 Stands-at g n = (x : Object) × (object_at g n ≡ Some x)
 
-names_again : (m : Meta) (g : Graph) (ns : List ℕ) → IsTyped m g → All (Stands-at g) ns → map_all (object_named g) (filter_map (name_at g) ns) ≡ Some ns
+names_again : (m : Metamodel) (g : Graph) (ns : List ℕ) → IsTyped m g → All (Stands-at g) ns → map_all (object_named g) (filter_map (name_at g) ns) ≡ Some ns
 names_again m g [] typed all = refl
 names_again m g (n ∷ ns) typed all =
     let here : Stands-at g n = All-head (Stands-at g) n ns all in
@@ -60,7 +60,7 @@ names_again m g (n ∷ ns) typed all =
     rw here.1 (rw again (rw (names_again m g ns typed (All-tail (Stands-at g) n ns all)) refl))
 
 -- The names of a valid match's objects, with its edges, name the match.
-pub named_again : (m : Meta) (g : Graph) (rule : Rule) (f : Match) → IsTyped m g → rule.multis ≡ [] → IsValid m g rule no_args f →
+pub named_again : (m : Metamodel) (g : Graph) (rule : Rule) (f : Match) → IsTyped m g → rule.multis ≡ [] → IsValid m g rule no_args f →
     match_named g (record { nodes = filter_map (name_at g) f.nodes; edges = f.edges; copies = [] }) ≡ Some f
 named_again m g rule f typed none valid =
     let stand : All (Stands-at g) f.nodes =

@@ -7,7 +7,7 @@ use Rattle.hs_types.specs.declared.graph.Graph.{Graph}
 use Rattle.hs_types.specs.declared.graph.Object.{Object}
 use Rattle.hs_types.specs.declared.matching.Extension.{Extension}
 use Rattle.hs_types.specs.declared.matching.Match.{Match}
-use Rattle.hs_types.specs.declared.meta.Meta.{Meta}
+use Rattle.hs_types.specs.declared.meta.Metamodel.{Metamodel}
 use Rattle.hs_types.specs.Journal.{extension_named, match_named}
 use Rattle.hs_types.specs.Lists.{map_all, same_text}
 use Rattle.hs_types.specs.TypedGraph.{IsTyped, object_named}
@@ -51,7 +51,7 @@ map_all-injective f one (x ∷ xs) (y ∷ ys) zs p q =
     let rest : xs ≡ ys = map_all-injective f one xs ys there.1 (here.3 ∙ ap Some (tail_of both)) there.3 in
     λ i. first i ∷ rest i
 
-object_named-injective : (m : Meta) (g : Graph) → IsTyped m g → Injective (object_named g)
+object_named-injective : (m : Metamodel) (g : Graph) → IsTyped m g → Injective (object_named g)
 object_named-injective m g typed s t n p q =
     let here = map-some (λ (o : Object). o.number) (find (λ o. same_text o.name s) g.objects) n p in
     let there = map-some (λ (o : Object). o.number) (find (λ o. same_text o.name t) g.objects) n q in
@@ -60,7 +60,7 @@ object_named-injective m g typed s t n p q =
     let same : here.0 ≡ there.0 = some-same (sym x_at ∙ ap (λ k. find (λ o. eqb o.number k) g.objects) (here.2 ∙ sym there.2) ∙ y_at) in
     sym (same_text-same here.0.name s (find-passes (λ (o : Object). same_text o.name s) g.objects here.0 here.1)) ∙ ap (λ (o : Object). o.name) same ∙ same_text-same there.0.name t (find-passes (λ (o : Object). same_text o.name t) g.objects there.0 there.1)
 
-extension_named-injective : (m : Meta) (g : Graph) → IsTyped m g → Injective (extension_named g)
+extension_named-injective : (m : Metamodel) (g : Graph) → IsTyped m g → Injective (extension_named g)
 extension_named-injective m g typed x y z p q =
     let here = map-some (λ (ns : List ℕ). record { nodes = ns; edges = x.edges }) (map_all (object_named g) x.nodes) z p in
     let there = map-some (λ (ns : List ℕ). record { nodes = ns; edges = y.edges }) (map_all (object_named g) y.nodes) z q in
@@ -81,7 +81,7 @@ named_parts g found f e = go (map_all (object_named g) found.nodes) (map_all (ma
         let same : record { nodes = ns; edges = found.edges; copies = cs } ≡ f = some-same e in
         (p ∙ ap (λ (h : Match). Some h.nodes) same, q ∙ ap (λ (h : Match). Some h.copies) same, ap (λ (h : Match). h.edges) same)
 
-pub match_named-injective : (m : Meta) (g : Graph) → IsTyped m g → Injective (match_named g)
+pub match_named-injective : (m : Metamodel) (g : Graph) → IsTyped m g → Injective (match_named g)
 match_named-injective m g typed a b f p q =
     let here = named_parts g a f p in
     let there = named_parts g b f q in

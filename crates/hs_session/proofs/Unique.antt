@@ -15,7 +15,7 @@ use Rattle.hs_types.specs.declared.entry.What.{What}
 use Rattle.hs_types.specs.declared.entry.What.TheVariants.{One, Group}
 use Rattle.hs_types.specs.declared.graph.Graph.{Graph}
 use Rattle.hs_types.specs.declared.matching.Match.{Match}
-use Rattle.hs_types.specs.declared.meta.Meta.{Meta}
+use Rattle.hs_types.specs.declared.meta.Metamodel.{Metamodel}
 use Rattle.hs_types.specs.declared.request.Args.{Args}
 use Rattle.hs_types.specs.declared.request.Request.{Request}
 use Rattle.hs_types.specs.declared.rule.Rule.{Rule}
@@ -44,7 +44,7 @@ tried-same s t a r x o = λ i. record { attempt = a i; rule = r i; args = x i; o
     bounded n = hlevel (le_prop)
 
 -- Two outcomes of an attempt at the least match.
-outcome-same : (m : Meta) (g : Graph) (rule : Rule) (args : Args) (a b : Outcome) → IsTyped m g →
+outcome-same : (m : Metamodel) (g : Graph) (rule : Rule) (args : Args) (a b : Outcome) → IsTyped m g →
     ((asked : Cause) → OutcomeAsks m g rule args a asked) → ((asked : Cause) → OutcomeAsks m g rule args b asked) → IsLeastOutcome m g rule args a → IsLeastOutcome m g rule args b → a ≡ b
 outcome-same m g rule args Missed Missed typed p q l k = refl
 outcome-same m g rule args Missed (Applied found new old gone) typed p q l k = absurd (valid_not (match_named g found) (q cause.Match) (p cause.Valid))

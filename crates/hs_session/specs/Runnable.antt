@@ -3,7 +3,7 @@ use Rattle.std.specs.Prelude.{◌+◌, ◌^◌, ◌≤◌, ◌≡◌, [], length
 use Rattle.hs_types.specs.declared.entry.Outcome.{Outcome}
 use Rattle.hs_types.specs.declared.entry.Outcome.TheVariants.{Applied, Missed}
 use Rattle.hs_types.specs.declared.graph.Graph.{Graph}
-use Rattle.hs_types.specs.declared.meta.Meta.{Meta}
+use Rattle.hs_types.specs.declared.meta.Metamodel.{Metamodel}
 use Rattle.hs_types.specs.declared.rule.Rule.{Rule}
 use Rattle.hs_types.specs.RuleForm.{IsRule}
 use Rattle.hs_finding.specs.FirstMatch.{IsSmall, OnlyAdds}
@@ -17,7 +17,7 @@ pub record HasRoom (g : Graph) (rule : Rule) : Type 0 where
   pub names : g.next_name + length rule.shape.nodes ≤ 2 ^ 63
 
 -- A rule of the metamodel, without parameters, that only adds; few enough elements for a search, and room for what it makes.
-pub record IsRunnable (m : Meta) (g : Graph) (rule : Rule) : Type 0 where
+pub record IsRunnable (m : Metamodel) (g : Graph) (rule : Rule) : Type 0 where
   pub well_formed : IsRule m rule
   pub no_params : rule.params ≡ []
   pub only_adds : OnlyAdds rule

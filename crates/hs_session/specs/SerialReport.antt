@@ -6,7 +6,7 @@ use Rattle.hs_types.specs.declared.entry.Outcome.{Outcome}
 use Rattle.hs_types.specs.declared.entry.Outcome.TheVariants.{Applied, Missed}
 use Rattle.hs_types.specs.declared.entry.Tried.{Tried}
 use Rattle.hs_types.specs.declared.graph.Graph.{Graph}
-use Rattle.hs_types.specs.declared.meta.Meta.{Meta}
+use Rattle.hs_types.specs.declared.meta.Metamodel.{Metamodel}
 use Rattle.hs_types.specs.declared.request.Args.{Args}
 use Rattle.hs_types.specs.declared.request.Request.{Request}
 use Rattle.hs_types.specs.declared.rule.Rule.{Rule}
@@ -23,7 +23,7 @@ abbrev pub NotAfter : Entry → Entry → Type 0
 NotAfter a b = (a.session < b.session) ⊎ ((a.session ≡ b.session) × (a.request ≤ b.request))
 
 -- Where an attempt was applied, no valid match is earlier than the one that it names.
-abbrev pub IsLeastOutcome : Meta → Graph → Rule → Args → Outcome → Type 0
+abbrev pub IsLeastOutcome : Metamodel → Graph → Rule → Args → Outcome → Type 0
 IsLeastOutcome m g rule args (Applied found new old gone) = IfSome (match_named g found) (IsLeast m g rule args)
 IsLeastOutcome m g rule args Missed = Unit {0}
 

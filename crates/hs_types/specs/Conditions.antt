@@ -6,7 +6,7 @@ use Rattle.hs_expr.specs.declared.value.Value.TheVariants as value
 use Rattle.hs_expr.specs.Evaluation.{Env, value_of}
 use Rattle.hs_types.specs.declared.graph.Graph.{Graph}
 use Rattle.hs_types.specs.declared.matching.Extension.{Extension}
-use Rattle.hs_types.specs.declared.meta.Meta.{Meta}
+use Rattle.hs_types.specs.declared.meta.Metamodel.{Metamodel}
 use Rattle.hs_types.specs.declared.request.Args.{Args}
 use Rattle.hs_types.specs.declared.rule.Part.{Part}
 use Rattle.hs_types.specs.declared.rule.PatternNode.{PatternNode}
@@ -31,13 +31,13 @@ abbrev pub AreTrue : Env → List Expr → Type 0
 AreTrue env wheres = All (λ expr. value_of env expr ≡ Some (value.Bool true)) wheres
 
 -- Each has a value, and one of its attribute's type.
-abbrev pub AreFit : Meta → Env → List SetItem → Type 0
+abbrev pub AreFit : Metamodel → Env → List SetItem → Type 0
 AreFit m env sets = All (λ item. IsSomeAnd (value_of env item.value) (λ v. fits m item.attribute v ≡ true)) sets
 
 -- The match goes on to the part in no way.
-abbrev pub IsAbsent : Meta → Graph → Rule → Extension → Part → Type 0
+abbrev pub IsAbsent : Metamodel → Graph → Rule → Extension → Part → Type 0
 IsAbsent m g rule f part = (x : Extension) → Extends m g rule.shape f (shape_of part) x → ⊥
 
 -- The match goes on to the part in some way.
-abbrev pub IsPresent : Meta → Graph → Rule → Extension → Part → Type 0
+abbrev pub IsPresent : Metamodel → Graph → Rule → Extension → Part → Type 0
 IsPresent m g rule f part = (x : Extension) × Extends m g rule.shape f (shape_of part) x

@@ -5,7 +5,7 @@ use Rattle.hs_expr.specs.Evaluation.{Env}
 use Rattle.hs_types.specs.declared.graph.Graph.{Graph}
 use Rattle.hs_types.specs.declared.matching.Extension.{Extension}
 use Rattle.hs_types.specs.declared.matching.Match.{Match}
-use Rattle.hs_types.specs.declared.meta.Meta.{Meta}
+use Rattle.hs_types.specs.declared.meta.Metamodel.{Metamodel}
 use Rattle.hs_types.specs.declared.request.Args.{Args}
 use Rattle.hs_types.specs.declared.rule.Multi.{Multi}
 use Rattle.hs_types.specs.declared.rule.PatternNode.{PatternNode}
@@ -34,11 +34,11 @@ abbrev pub copy_env : Graph → Rule → Args → Extension → Copy → Env
 copy_env g rule args f copy = env_of g rule args (nodes_of rule copy.multi) (images_of f copy.found)
 
 -- An extension of the kernel's match onto the multi-rule that makes its `where`s true.
-abbrev pub IsCopy : Meta → Graph → Rule → Args → Extension → Multi → Extension → Type 0
+abbrev pub IsCopy : Metamodel → Graph → Rule → Args → Extension → Multi → Extension → Type 0
 IsCopy m g rule args f multi x = Extends m g rule.shape f multi.shape x × AreTrue (copy_env g rule args f (record { multi = multi; found = x })) multi.wheres
 
 -- All copies of the multi-rule, in order.
-pub record AreCopies (m : Meta) (g : Graph) (rule : Rule) (args : Args) (f : Extension) (multi : Multi) (copies : List Extension) : Type 0 where
+pub record AreCopies (m : Metamodel) (g : Graph) (rule : Rule) (args : Args) (f : Extension) (multi : Multi) (copies : List Extension) : Type 0 where
   pub each : All (IsCopy m g rule args f multi) copies
   pub whole : (x : Extension) → IsCopy m g rule args f multi x → Contains copies x
   pub in_order : EachPair IsEarlier copies
@@ -53,7 +53,7 @@ abbrev pub copies_of : Rule → Match → List Copy
 copies_of rule f = copies_from rule.multis f.copies
 
 -- The values that a copy sets fit.
-abbrev pub CopyFits : Meta → Graph → Rule → Args → Extension → Copy → Type 0
+abbrev pub CopyFits : Metamodel → Graph → Rule → Args → Extension → Copy → Type 0
 CopyFits m g rule args f copy = AreFit m (copy_env g rule args f copy) copy.multi.sets
 
 -- A slot of an object of the graph.

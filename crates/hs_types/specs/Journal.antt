@@ -18,7 +18,7 @@ use Rattle.hs_types.specs.declared.entry.What.TheVariants.{One, Group}
 use Rattle.hs_types.specs.declared.graph.Graph.{Graph}
 use Rattle.hs_types.specs.declared.matching.Extension.{Extension}
 use Rattle.hs_types.specs.declared.matching.Match.{Match}
-use Rattle.hs_types.specs.declared.meta.Meta.{Meta}
+use Rattle.hs_types.specs.declared.meta.Metamodel.{Metamodel}
 use Rattle.hs_types.specs.declared.plan.Plan.{Plan}
 use Rattle.hs_types.specs.declared.request.Args.{Args}
 use Rattle.hs_types.specs.declared.rule.Rule.{Rule}
@@ -53,21 +53,21 @@ gone_objects g plan = filter_map (λ n. option_map (λ object. record { name = o
 abbrev pub IsWithinNumbers : Graph → Type 0
 IsWithinNumbers g = (g.next_object ≤ 1000000000) × (g.next_edge ≤ 1000000000)
 
-abbrev pub meta_of : RuleSet → Meta
+abbrev pub meta_of : RuleSet → Metamodel
 meta_of rules = arc_value rules.meta
 
 abbrev pub rule_of : RuleSet → Tried → Option Rule
 rule_of rules tried = slice_get rules.rules tried.rule
 
 -- What each cause asks of an attempt that says it was applied.
-abbrev pub AppliedAsks : Meta → Graph → Rule → Args → MatchNames → List (List ℕ) → List Value → List Gone → Cause → Type 0
+abbrev pub AppliedAsks : Metamodel → Graph → Rule → Args → MatchNames → List (List ℕ) → List Value → List Gone → Cause → Type 0
 AppliedAsks m g rule args found new old gone cause.Match = IsSomeAnd (match_named g found) (IsValid m g rule args)
 AppliedAsks m g rule args found new old gone cause.New = IfSome (match_named g found) (λ f. (new ≡ new_names g (plan_of m g rule args f)) × IsWithinNumbers (step g (plan_of m g rule args f)))
 AppliedAsks m g rule args found new old gone cause.Old = IfSome (match_named g found) (λ f. (old ≡ old_values g (plan_of m g rule args f)) × (gone ≡ gone_objects g (plan_of m g rule args f)))
 AppliedAsks m g rule args found new old gone _ = Unit {0}
 
 -- What each cause asks of an attempt at the rule.
-abbrev pub OutcomeAsks : Meta → Graph → Rule → Args → Outcome → Cause → Type 0
+abbrev pub OutcomeAsks : Metamodel → Graph → Rule → Args → Outcome → Cause → Type 0
 OutcomeAsks m g rule args (Applied found new old gone) asked = AppliedAsks m g rule args found new old gone asked
 OutcomeAsks m g rule args Missed cause.Valid = NoneIsValid m g rule args
 OutcomeAsks m g rule args Missed _ = Unit {0}
@@ -82,7 +82,7 @@ abbrev pub IsLawfulTry : RuleSet → Graph → Tried → Type 0
 IsLawfulTry rules g tried = (asked : Cause) → Asks rules g tried asked
 
 -- The graph after an attempt: after the step where it was applied, and else the same.
-abbrev pub after_outcome : Meta → Graph → Rule → Args → Outcome → Graph
+abbrev pub after_outcome : Metamodel → Graph → Rule → Args → Outcome → Graph
 after_outcome m g rule args (Applied found new old gone) = unwrap_or (option_map (λ f. step g (plan_of m g rule args f)) (match_named g found)) g
 after_outcome m g rule args Missed = g
 

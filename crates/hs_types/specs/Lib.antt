@@ -17,3 +17,4 @@ pub mod Spares
 pub mod Elements
 pub mod Outs
 pub mod Limits
+pub mod Supertypes

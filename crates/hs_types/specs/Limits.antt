@@ -3,14 +3,14 @@ use Rattle.std.specs.Prelude.{ℕ, ◌+◌, ◌≤◌, List, length, ◌&&◌, e
 use Rattle.std.specs.List.{All, filter}
 use Rattle.hs_expr.specs.declared.expr.Expr.{Expr}
 use Rattle.hs_expr.specs.Evaluation.{nesting}
-use Rattle.hs_types.specs.declared.meta.Meta.{Meta}
+use Rattle.hs_types.specs.declared.meta.Metamodel.{Metamodel}
 use Rattle.hs_types.specs.declared.rule.PatternEdge.{PatternEdge}
 use Rattle.hs_types.specs.declared.rule.PatternNode.{PatternNode}
 use Rattle.hs_types.specs.declared.rule.Rule.{Rule}
 use Rattle.hs_types.specs.declared.rule.SetItem.{SetItem}
 
 -- At most 256 classes, each with at most 64 features.
-pub record IsSmallMeta (m : Meta) : Type 0 where
+pub record IsSmallMeta (m : Metamodel) : Type 0 where
   pub classes : length m.classes ≤ 256
   pub features : All (λ class. length class.features ≤ 64) m.classes
 

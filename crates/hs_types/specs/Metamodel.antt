@@ -1,6 +1,6 @@
 -- Metamodels, after Ecore: classes with supertypes, and the attributes and references that they own.
-use Rattle.std.specs.Prelude.{ℕ, ◌^◌, ◌<◌, ◌≤◌, ◌≡◌, ◌⊎◌, List, [], ◌++◌, is_some, map, length, Bool, true, false, eqb, Option, Some, None, IsSomeAnd, IfSome, EachIndex, slice_get}
-use Rattle.std.specs.List.{All, AllPairs, filter, flat_map}
+use Rattle.std.specs.Prelude.{ℕ, ◌^◌, ◌<◌, ◌≤◌, ◌≡◌, ◌⊎◌, List, [], ◌++◌, is_some, map, length, Bool, true, false, eqb, nat_lt, Option, Some, None, IsSomeAnd, IfSome, EachIndex, slice_get}
+use Rattle.std.specs.List.{All, AllPairs, filter, flat_map, list_all}
 use Rattle.std.specs.Option.{option_map, option_and_then, unwrap_or}
 use Rattle.hs_expr.specs.declared.value.Kind.{Kind}
 use Rattle.hs_expr.specs.declared.value.Kind.TheVariants as kind
@@ -13,31 +13,43 @@ use Rattle.hs_types.specs.declared.meta.DataType.TheVariants.{EInt, ELong, EBool
 use Rattle.hs_types.specs.declared.meta.Feature.{Feature}
 use Rattle.hs_types.specs.declared.meta.FeatureKind.{FeatureKind}
 use Rattle.hs_types.specs.declared.meta.FeatureKind.TheVariants.{Attribute, Reference}
-use Rattle.hs_types.specs.declared.meta.Meta.{Meta}
+use Rattle.hs_types.specs.declared.meta.Metamodel.{Metamodel}
 use Rattle.hs_types.specs.Lists.{has, Differ, each_once, places}
 
-abbrev pub class_at : Meta → ℕ → Option Class
+abbrev pub class_at : Metamodel → ℕ → Option Class
 class_at m c = slice_get m.classes c
 
-abbrev pub feature_at : Meta → ℕ → Option Feature
+abbrev pub feature_at : Metamodel → ℕ → Option Feature
 feature_at m f = slice_get m.features f
 
+-- The numbers of each class's direct supertypes.
+abbrev pub supers_of : Metamodel → List (List ℕ)
+supers_of m = map (λ class. class.supers) m.classes
+
+-- Each supertype is one of the classes.
+abbrev pub supers_are_classes : Metamodel → Bool
+supers_are_classes m = list_all (λ class. list_all (λ d. nat_lt d (length m.classes)) class.supers) m.classes
+
 -- The class names d among its supertypes.
-abbrev pub HasSuper : Meta → ℕ → ℕ → Type 0
+abbrev pub HasSuper : Metamodel → ℕ → ℕ → Type 0
 HasSuper m c d = IsSomeAnd (class_at m c) (λ class. has class.supers d ≡ true)
 
 -- A class conforms to each class that is reached from it by zero or more steps to a supertype.
-pub data Conforms (m : Meta) : ℕ → ℕ → Type 0 where
+pub data Conforms (m : Metamodel) : ℕ → ℕ → Type 0 where
   itself : (c : ℕ) → Conforms m c c
   above : (c d e : ℕ) → HasSuper m c d → Conforms m d e → Conforms m c e
 
 -- A class of which there can be objects.
-abbrev pub IsConcrete : Meta → ℕ → Type 0
+abbrev pub IsConcrete : Metamodel → ℕ → Type 0
 IsConcrete m c = IsSomeAnd (class_at m c) (λ class. class.is_abstract ≡ false)
 
+-- The class is concrete and conforms to both.
+abbrev pub IsCommon : Metamodel → ℕ → ℕ → ℕ → Type 0
+IsCommon m a b c = IsConcrete m c × Conforms m c a × Conforms m c b
+
 -- Some concrete class conforms to both.
-abbrev pub HaveCommon : Meta → ℕ → ℕ → Type 0
-HaveCommon m a b = (c : ℕ) × IsConcrete m c × Conforms m c a × Conforms m c b
+abbrev pub HaveCommon : Metamodel → ℕ → ℕ → Type 0
+HaveCommon m a b = (c : ℕ) × IsCommon m a b c
 
 -- The values that a data type has: of EInt the whole numbers of 32 bits with a sign, of ELong those of 64 bits.
 abbrev pub is_of_type : DataType → Value → Bool
@@ -69,29 +81,29 @@ abbrev pub is_attribute : Feature → Bool
 is_attribute feature = is_some (type_of_kind feature.kind)
 
 -- The data type of an attribute, and the value that it has where none is given.
-abbrev pub type_of : Meta → ℕ → Option DataType
+abbrev pub type_of : Metamodel → ℕ → Option DataType
 type_of m f = option_and_then (λ feature. type_of_kind feature.kind) (feature_at m f)
 
-abbrev pub default_of : Meta → ℕ → Option Value
+abbrev pub default_of : Metamodel → ℕ → Option Value
 default_of m f = option_and_then (λ feature. default_of_kind feature.kind) (feature_at m f)
 
 -- The class that a reference leads to.
-abbrev pub target_of : Meta → ℕ → Option ℕ
+abbrev pub target_of : Metamodel → ℕ → Option ℕ
 target_of m f = option_and_then (λ feature. target_of_kind feature.kind) (feature_at m f)
 
 -- f is an attribute, and the value is of its data type.
-abbrev pub fits : Meta → ℕ → Value → Bool
+abbrev pub fits : Metamodel → ℕ → Value → Bool
 fits m f v = unwrap_or (option_map (λ data_type. is_of_type data_type v) (type_of m f)) false
 
 -- The features of a class, inherited ones first, and the attributes among them.
-abbrev pub features_of : Meta → ℕ → List ℕ
+abbrev pub features_of : Metamodel → ℕ → List ℕ
 features_of m c = unwrap_or (option_map (λ class. class.features) (class_at m c)) []
 
-abbrev pub attributes_of : Meta → ℕ → List ℕ
+abbrev pub attributes_of : Metamodel → ℕ → List ℕ
 attributes_of m c = filter (λ f. is_some (type_of m f)) (features_of m c)
 
 -- The features that a class owns.
-abbrev pub owned_by : Meta → ℕ → List ℕ
+abbrev pub owned_by : Metamodel → ℕ → List ℕ
 owned_by m c = places (λ feature. eqb feature.owner c) m.features
 
 -- Features stand class by class, and of one class its attributes before its references.
@@ -99,12 +111,12 @@ abbrev pub StandBefore : Feature → Feature → Type 0
 StandBefore f g = (f.owner < g.owner) ⊎ ((f.owner ≡ g.owner) × (is_attribute g ≡ true → is_attribute f ≡ true))
 
 -- A default is of its data type. A reference leads to a class; it has room for one target or more, and for no fewer than it needs.
-abbrev pub FeatureFits : Meta → FeatureKind → Type 0
+abbrev pub FeatureFits : Metamodel → FeatureKind → Type 0
 FeatureFits m (Attribute data_type default) = is_of_type data_type default ≡ true
 FeatureFits m (Reference target containment lower upper) = (target < length m.classes) × IfSome upper (λ most. (0 < most) × (lower ≤ most))
 
 -- Classes and features with which objects can be typed. No class is its own supertype, by one step or more. The features of a class are the inherited ones, supertype by supertype, each once, and then its own; no two of them have one name.
-pub record IsMeta (m : Meta) : Type 0 where
+pub record IsMeta (m : Metamodel) : Type 0 where
   pub names_differ : Differ (map (λ class. class.name) m.classes)
   pub supers_stand : All (λ class. All (λ d. d < length m.classes) class.supers) m.classes
   pub no_cycle : (c d : ℕ) → HasSuper m c d → Conforms m d c → ⊥

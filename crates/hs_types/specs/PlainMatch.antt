@@ -4,7 +4,7 @@ use Rattle.std.specs.List.{AllZip}
 use Rattle.hs_types.specs.declared.graph.Graph.{Graph}
 use Rattle.hs_types.specs.declared.matching.Extension.{Extension}
 use Rattle.hs_types.specs.declared.matching.Match.{Match}
-use Rattle.hs_types.specs.declared.meta.Meta.{Meta}
+use Rattle.hs_types.specs.declared.meta.Metamodel.{Metamodel}
 use Rattle.hs_types.specs.declared.rule.PatternEdge.{PatternEdge}
 use Rattle.hs_types.specs.declared.rule.PatternNode.{PatternNode}
 use Rattle.hs_types.specs.declared.rule.Shape.{Shape}
@@ -21,7 +21,7 @@ abbrev pub IsImage : Graph → (ℕ → ℕ) → PatternEdge → ℕ → Type 0
 IsImage g at edge n = edge_at g n ≡ Some (record { number = n; source = at edge.source; reference = edge.reference; target = at edge.target })
 
 -- x takes the match f of the shape s on to the shape t: an object for each left node of t, of its class; an edge for each left edge of t, of its reference and between the images of its ends. No object and no edge is taken twice, by f and x together.
-pub record Extends (m : Meta) (g : Graph) (s : Shape) (f : Extension) (t : Shape) (x : Extension) : Type 0 where
+pub record Extends (m : Metamodel) (g : Graph) (s : Shape) (f : Extension) (t : Shape) (x : Extension) : Type 0 where
   pub nodes_fit : AllZip (λ node n. IsOf m g node.class n) (left_nodes t.nodes) x.nodes
   pub edges_fit : AllZip (IsImage g (image (s.nodes ++ t.nodes) (f.nodes ++ x.nodes))) (left_edges t.edges) x.edges
   pub nodes_differ : Differ (f.nodes ++ x.nodes)
@@ -32,7 +32,7 @@ abbrev pub no_match : Extension
 no_match = record { nodes = []; edges = [] }
 
 -- A plain match begins from nothing. Arguments and conditions are left aside.
-abbrev pub IsPlain : Meta → Graph → Shape → Extension → Type 0
+abbrev pub IsPlain : Metamodel → Graph → Shape → Extension → Type 0
 IsPlain m g s f = Extends m g no_shape no_match s f
 
 -- The kernel's part of a match.

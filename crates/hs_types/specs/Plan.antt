@@ -8,7 +8,7 @@ use Rattle.hs_types.specs.declared.graph.Graph.{Graph}
 use Rattle.hs_types.specs.declared.graph.Slot.{Slot}
 use Rattle.hs_types.specs.declared.matching.Extension.{Extension}
 use Rattle.hs_types.specs.declared.matching.Match.{Match}
-use Rattle.hs_types.specs.declared.meta.Meta.{Meta}
+use Rattle.hs_types.specs.declared.meta.Metamodel.{Metamodel}
 use Rattle.hs_types.specs.declared.plan.End.{End}
 use Rattle.hs_types.specs.declared.plan.End.TheVariants.{Old, New}
 use Rattle.hs_types.specs.declared.plan.MadeEdge.{MadeEdge}
@@ -41,11 +41,11 @@ abbrev pub value_set : Env → List SetItem → ℕ → ℕ → Option Value
 value_set env sets n a = option_and_then (λ item. value_of env item.value) (find (λ item. eqb item.node n && eqb item.attribute a) sets)
 
 -- The slots of the object that is made for node n: each attribute of its class with the value that is set, or else its default.
-abbrev pub made_slots : Meta → Env → List SetItem → ℕ → ℕ → List Slot
+abbrev pub made_slots : Metamodel → Env → List SetItem → ℕ → ℕ → List Slot
 made_slots m env sets n class = filter_map (λ a. option_map (λ v. record { attribute = a; value = v }) (option_or (value_set env sets n a) (default_of m a))) (attributes_of m class)
 
 -- One object for each made node, where the first node has this number.
-abbrev pub objects_for : Meta → Env → List SetItem → ℕ → List PatternNode → List MadeObject
+abbrev pub objects_for : Metamodel → Env → List SetItem → ℕ → List PatternNode → List MadeObject
 objects_for m env sets n [] = []
 objects_for m env sets n (node ∷ nodes) = cond (is_make node.mark) (record { class = node.class; slots = made_slots m env sets n node.class } ∷ objects_for m env sets (n + 1) nodes) (objects_for m env sets (n + 1) nodes)
 
@@ -75,11 +75,11 @@ copy_edges rule f count (copy ∷ copies) = edges_for (copy_end rule f count cop
 abbrev pub copy_writes : Graph → Rule → Args → Extension → Copy → List Write
 copy_writes g rule args f copy = writes_of (copy_env g rule args f copy) (nodes_of rule copy.multi) (images_of f copy.found) copy.multi.sets
 
-abbrev pub copy_objects : Meta → Graph → Rule → Args → Extension → Copy → List MadeObject
+abbrev pub copy_objects : Metamodel → Graph → Rule → Args → Extension → Copy → List MadeObject
 copy_objects m g rule args f copy = objects_for m (copy_env g rule args f copy) copy.multi.sets (length rule.shape.nodes) copy.multi.shape.nodes
 
 -- What the rule does at a match: the kernel's part first, then copy by copy, each in written order. All values are those of the graph before.
-abbrev pub plan_of : Meta → Graph → Rule → Args → Match → Plan
+abbrev pub plan_of : Metamodel → Graph → Rule → Args → Match → Plan
 plan_of m g rule args f =
     let kernel = kernel_of f in
     let env = env_of g rule args rule.shape.nodes f.nodes in
@@ -98,17 +98,17 @@ EndIs g plan P (Old n) = Stands g P n × (has plan.drop_objects n ≡ false)
 EndIs g plan P (New i) = IsSomeAnd (slice_get plan.make_objects i) (λ object. P object.class)
 
 -- A made edge can join its ends.
-abbrev pub CanBeMade : Meta → Graph → Plan → MadeEdge → Type 0
+abbrev pub CanBeMade : Metamodel → Graph → Plan → MadeEdge → Type 0
 CanBeMade m g plan edge = EndIs g plan (λ c. has (features_of m c) edge.reference ≡ true) edge.source × IsSomeAnd (target_of m edge.reference) (λ class. EndIs g plan (λ c. Conforms m c class) edge.target)
 
 -- The value is one that the slot can have.
-abbrev pub SlotFits : Meta → SlotKind → Value → Type 0
+abbrev pub SlotFits : Metamodel → SlotKind → Value → Type 0
 SlotFits m (Attribute a) v = fits m a v ≡ true
 SlotFits m (Link r) v = ⊥
 SlotFits m Container v = ⊥
 
 -- The plan can be carried out in the graph: what it drops and writes is there, each once; no edge is left without an end, and nothing is written to what goes; what it writes and makes is such as a typed graph has.
-pub record Fits (m : Meta) (g : Graph) (plan : Plan) : Type 0 where
+pub record Fits (m : Metamodel) (g : Graph) (plan : Plan) : Type 0 where
   pub objects_stand : All (λ n. IsSome (object_at g n)) plan.drop_objects
   pub objects_differ : Differ plan.drop_objects
   pub edges_stand : All (λ n. IsSome (edge_at g n)) plan.drop_edges

@@ -7,7 +7,7 @@ use Rattle.hs_expr.specs.declared.expr.SlotRead.{SlotRead}
 use Rattle.hs_expr.specs.declared.value.Kind.{Kind}
 use Rattle.hs_expr.specs.declared.value.Kind.TheVariants as value
 use Rattle.hs_expr.specs.Evaluation.{Scope, kind_in, reads_of}
-use Rattle.hs_types.specs.declared.meta.Meta.{Meta}
+use Rattle.hs_types.specs.declared.meta.Metamodel.{Metamodel}
 use Rattle.hs_types.specs.declared.rule.Direction.{Direction}
 use Rattle.hs_types.specs.declared.rule.Direction.TheVariants.{In, Out}
 use Rattle.hs_types.specs.declared.rule.Mark.{Mark}
@@ -30,7 +30,7 @@ use Rattle.hs_types.specs.Metamodel.{Conforms, HaveCommon, IsConcrete, attribute
 use Rattle.hs_types.specs.Pattern.{exchanged, is_drop, is_keep, is_kind, is_left, is_make, node_is}
 
 -- Objects can be of the node's class, and one can be made of it where the node is made.
-abbrev pub NodeFits : Meta → PatternNode → Type 0
+abbrev pub NodeFits : Metamodel → PatternNode → Type 0
 NodeFits m node = HaveCommon m node.class node.class × (is_make node.mark ≡ true → IsConcrete m node.class)
 
 -- What an edge may join: a kept one kept nodes, a dropped one left nodes, a made one nodes that are there afterwards.
@@ -44,22 +44,22 @@ abbrev pub EndFits : (Mark → Bool) → List PatternNode → (ℕ → Type 0) �
 EndFits test nodes P n = IsSomeAnd (slice_get nodes n) (λ node. (test node.mark ≡ true) × P node.class)
 
 -- The edge's reference is a feature of its source's class, and its target's class conforms to the class that the reference leads to.
-abbrev pub EdgeFits : Meta → (Mark → Bool) → List PatternNode → PatternEdge → Type 0
+abbrev pub EdgeFits : Metamodel → (Mark → Bool) → List PatternNode → PatternEdge → Type 0
 EdgeFits m test nodes edge = EndFits test nodes (λ c. has (features_of m c) edge.reference ≡ true) edge.source × IsSomeAnd (target_of m edge.reference) (λ class. EndFits test nodes (λ c. Conforms m c class) edge.target)
 
 -- The kinds of what the rule's expressions may read: slots of left nodes, and data parameters that are given.
-abbrev pub slot_kind : Meta → List PatternNode → ℕ → ℕ → Option Kind
+abbrev pub slot_kind : Metamodel → List PatternNode → ℕ → ℕ → Option Kind
 slot_kind m nodes n a = option_and_then (λ node. if is_left node.mark && has (attributes_of m node.class) a then option_map kind_of_type (type_of m a) else None) (slice_get nodes n)
 
 abbrev pub data_kind : Direction → ParamKind → Option Kind
 data_kind In (Data kind) = Some kind
 data_kind _ _ = None
 
-abbrev pub scope_of : Meta → Rule → List PatternNode → Scope
+abbrev pub scope_of : Metamodel → Rule → List PatternNode → Scope
 scope_of m rule nodes = record { slot = slot_kind m nodes; param = λ n. option_and_then (λ param. data_kind param.direction param.kind) (slice_get rule.params n) }
 
 -- An attribute of a node that stays or is made gets a value of the attribute's kind.
-abbrev pub SetFits : Meta → Scope → List PatternNode → SetItem → Type 0
+abbrev pub SetFits : Metamodel → Scope → List PatternNode → SetItem → Type 0
 SetFits m scope nodes item = EndFits (λ mark. not (is_drop mark)) nodes (λ c. has (attributes_of m c) item.attribute ≡ true) item.node × (kind_in scope item.value ≡ option_map kind_of_type (type_of m item.attribute))
 
 -- Of one class slots stand in the order of its features: attributes, then links, then the container.
@@ -70,7 +70,7 @@ KindBefore features (Link r) (Link s) = position_or_len (eqb r) features < posit
 KindBefore features (Link r) Container = Unit {0}
 KindBefore features _ _ = ⊥
 
-abbrev pub SlotBefore : Meta → List PatternNode → PatternSlot → PatternSlot → Type 0
+abbrev pub SlotBefore : Metamodel → List PatternNode → PatternSlot → PatternSlot → Type 0
 SlotBefore m nodes s t = (s.node < t.node) ⊎ ((s.node ≡ t.node) × IsSomeAnd (slice_get nodes s.node) (λ node. KindBefore (features_of m node.class) s.kind t.kind))
 
 abbrev pub is_read : List SlotRead → PatternSlot → Bool
@@ -84,7 +84,7 @@ abbrev pub has_slot : List PatternSlot → ℕ → SlotKind → Bool
 has_slot slots n kind = list_any (λ slot. eqb slot.node n && is_kind slot.kind kind) slots
 
 -- The slots are those of the nodes from this number on that are read, or that are set at a kept node; each once, in order, and marked as written where it is set.
-pub record AreSlots (m : Meta) (nodes : List PatternNode) (first : ℕ) (reads : List SlotRead) (sets : List SetItem) (slots : List PatternSlot) : Type 0 where
+pub record AreSlots (m : Metamodel) (nodes : List PatternNode) (first : ℕ) (reads : List SlotRead) (sets : List SetItem) (slots : List PatternSlot) : Type 0 where
   pub in_order : EachPair (SlotBefore m nodes) slots
   pub at_own : All (λ slot. (first ≤ slot.node) × (node_is is_left nodes slot.node ≡ true)) slots
   pub needed : All (λ slot. (is_read reads slot || is_set sets slot ≡ true) × (slot.written ≡ is_set sets slot)) slots
@@ -100,7 +100,7 @@ abbrev pub SetOnce : List SetItem → Type 0
 SetOnce sets = EachPair (λ a b. (a.node ≡ b.node) × (a.attribute ≡ b.attribute) → ⊥) sets
 
 -- A kernel or a multi-rule, whose nodes have the numbers from `first` on. It may name all these nodes, of which those before its own are the kernel's, and sets no slot of the kernel's nodes from within a multi-rule. The reads are those that make slots of its nodes.
-pub record IsBlock (m : Meta) (rule : Rule) (nodes : List PatternNode) (first : ℕ) (shape : Shape) (wheres : List Expr) (sets : List SetItem) (reads : List SlotRead) : Type 0 where
+pub record IsBlock (m : Metamodel) (rule : Rule) (nodes : List PatternNode) (first : ℕ) (shape : Shape) (wheres : List Expr) (sets : List SetItem) (reads : List SlotRead) : Type 0 where
   pub nodes_fit : All (NodeFits m) shape.nodes
   pub edges_fit : All (λ edge. EdgeFits m (joins edge.mark) nodes edge) shape.edges
   pub wheres_fit : All (λ expr. kind_in (scope_of m rule nodes) expr ≡ Some value.Bool) wheres
@@ -109,13 +109,13 @@ pub record IsBlock (m : Meta) (rule : Rule) (nodes : List PatternNode) (first : 
   pub slots : AreSlots m nodes first reads sets shape.slots
 
 -- A forbid or require part: its nodes and edges are marked as kept, and its edges join left nodes of the kernel and its own.
-pub record IsPart (m : Meta) (rule : Rule) (part : Part) : Type 0 where
+pub record IsPart (m : Metamodel) (rule : Rule) (part : Part) : Type 0 where
   pub nodes_kept : All (λ node. is_keep node.mark ≡ true) part.nodes
   pub edges_kept : All (λ edge. is_keep edge.mark ≡ true) part.edges
   pub nodes_fit : All (NodeFits m) part.nodes
   pub edges_fit : All (EdgeFits m is_left (rule.shape.nodes ++ part.nodes)) part.edges
 
-abbrev pub IsMulti : Meta → Rule → Multi → Type 0
+abbrev pub IsMulti : Metamodel → Rule → Multi → Type 0
 IsMulti m rule multi = IsBlock m rule (rule.shape.nodes ++ multi.shape.nodes) (length rule.shape.nodes) multi.shape multi.wheres multi.sets (reads_in multi.wheres multi.sets)
 
 -- The node of an in parameter is on the left side, that of an out parameter is there afterwards.
@@ -141,7 +141,7 @@ abbrev pub kernel_reads : Rule → List SlotRead
 kernel_reads rule = filter (λ read. nat_lt read.node (length rule.shape.nodes)) (all_reads rule)
 
 -- A rule over the metamodel. Parameters have names of their own, and so have the nodes of the kernel and all its blocks.
-pub record IsRule (m : Meta) (rule : Rule) : Type 0 where
+pub record IsRule (m : Metamodel) (rule : Rule) : Type 0 where
   pub params_differ : Differ (map (λ param. param.name) rule.params)
   pub params_fit : All (λ param. ParamFits rule.shape.nodes param param.kind) rule.params
   pub names_differ : Differ (map (λ node. node.name) (all_nodes rule))

@@ -4,7 +4,7 @@ use Rattle.std.specs.List.{All, AllZip, list_any, flat_map}
 use Rattle.hs_types.specs.declared.graph.Graph.{Graph}
 use Rattle.hs_types.specs.declared.matching.Extension.{Extension}
 use Rattle.hs_types.specs.declared.matching.Match.{Match}
-use Rattle.hs_types.specs.declared.meta.Meta.{Meta}
+use Rattle.hs_types.specs.declared.meta.Metamodel.{Metamodel}
 use Rattle.hs_types.specs.declared.plan.Plan.{Plan}
 use Rattle.hs_types.specs.declared.request.Args.{Args}
 use Rattle.hs_types.specs.declared.rule.Multi.{Multi}
@@ -31,17 +31,17 @@ pub record IsOld (g : Graph) (x : Extension) : Type 0 where
   pub edges : All (λ n. n < g.next_edge) x.edges
 
 -- The plan makes no object of a class of the shape's nodes, and no edge of a reference of its edges.
-pub record MakesNone (m : Meta) (plan : Plan) (shape : Shape) : Type 0 where
+pub record MakesNone (m : Metamodel) (plan : Plan) (shape : Shape) : Type 0 where
   pub objects : All (λ node. All (λ object. Conforms m object.class node.class → ⊥) plan.make_objects) shape.nodes
   pub edges : All (λ edge. All (λ made. made.reference ≡ edge.reference → ⊥) plan.make_edges) shape.edges
 
 -- Of the kinds that the multi-rule has the plan makes nothing, and writes no slot.
-pub record LeavesKinds (m : Meta) (plan : Plan) (multi : Multi) : Type 0 where
+pub record LeavesKinds (m : Metamodel) (plan : Plan) (multi : Multi) : Type 0 where
   pub makes : MakesNone m plan multi.shape
   pub writes : All (λ slot. All (λ write. is_kind write.slot slot.kind ≡ false) plan.writes) multi.shape.slots
 
 -- A plan spares a match, and these extensions onto the require parts, where it drops none of their objects and edges, writes no slot that the kernel uses, makes no edge at an object that the match drops, makes no extension onto a forbid part, and leaves the kinds of the multi-rules alone.
-pub record Spares (m : Meta) (g : Graph) (plan : Plan) (rule : Rule) (f : Match) (supports : List Extension) : Type 0 where
+pub record Spares (m : Metamodel) (g : Graph) (plan : Plan) (rule : Rule) (f : Match) (supports : List Extension) : Type 0 where
   pub objects : Apart (all_nodes_of rule f ++ flat_map (λ x. x.nodes) supports) plan.drop_objects
   pub edges : Apart (all_edges_of rule f ++ flat_map (λ x. x.edges) supports) plan.drop_edges
   pub slots : All (λ slot. list_any (is_to (image rule.shape.nodes f.nodes slot.node) slot.kind) plan.writes ≡ false) rule.shape.slots
@@ -50,6 +50,6 @@ pub record Spares (m : Meta) (g : Graph) (plan : Plan) (rule : Rule) (f : Match)
   pub multis : All (LeavesKinds m plan) rule.multis
 
 -- A valid match, with an extension onto each require part.
-pub record IsSupported (m : Meta) (g : Graph) (rule : Rule) (args : Args) (f : Match) (supports : List Extension) : Type 0 where
+pub record IsSupported (m : Metamodel) (g : Graph) (rule : Rule) (args : Args) (f : Match) (supports : List Extension) : Type 0 where
   pub valid : IsValid m g rule args f
   pub supported : AllZip (λ part x. Extends m g rule.shape (kernel_of f) (shape_of part) x) rule.needs supports

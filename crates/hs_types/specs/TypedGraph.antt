@@ -8,7 +8,7 @@ use Rattle.hs_types.specs.declared.graph.Edge.{Edge}
 use Rattle.hs_types.specs.declared.graph.Graph.{Graph}
 use Rattle.hs_types.specs.declared.graph.Object.{Object}
 use Rattle.hs_types.specs.declared.graph.Slot.{Slot}
-use Rattle.hs_types.specs.declared.meta.Meta.{Meta}
+use Rattle.hs_types.specs.declared.meta.Metamodel.{Metamodel}
 use Rattle.hs_types.specs.declared.rule.SlotKind.{SlotKind}
 use Rattle.hs_types.specs.declared.rule.SlotKind.TheVariants.{Attribute, Link, Container}
 use Rattle.hs_types.specs.Lists.{has, same_text, Differ, EachPair, Rise}
@@ -43,11 +43,11 @@ abbrev pub Stands : Graph → (ℕ → Type 0) → ℕ → Type 0
 Stands g P n = IsSomeAnd (object_at g n) (λ object. P object.class)
 
 -- At n stands an object whose class conforms to this one.
-abbrev pub IsOf : Meta → Graph → ℕ → ℕ → Type 0
+abbrev pub IsOf : Metamodel → Graph → ℕ → ℕ → Type 0
 IsOf m g class n = Stands g (λ c. Conforms m c class) n
 
 -- At n stands an object whose class has this feature.
-abbrev pub HasFeature : Meta → Graph → ℕ → ℕ → Type 0
+abbrev pub HasFeature : Metamodel → Graph → ℕ → ℕ → Type 0
 HasFeature m g f n = Stands g (λ c. has (features_of m c) f ≡ true) n
 
 -- `#` and the decimal digits of k without leading zeros.
@@ -56,15 +56,15 @@ hash_name zero = 35 ∷ 48 ∷ []
 hash_name (suc k) = 35 ∷ map (λ d. 48 + d) (digits_of 10 (suc k))
 
 -- An object can be of this class and have these slots: the class is concrete, there is exactly one slot for each of its attributes, in their order, and each value is of its attribute's type.
-abbrev pub AreSlotsOf : Meta → ℕ → List Slot → Type 0
+abbrev pub AreSlotsOf : Metamodel → ℕ → List Slot → Type 0
 AreSlotsOf m class slots = IsConcrete m class × (map (λ slot. slot.attribute) slots ≡ attributes_of m class) × All (λ slot. fits m slot.attribute slot.value ≡ true) slots
 
 -- An edge of the reference can join them: the source's class has the reference as a feature, and the target's class conforms to the class that the reference leads to.
-abbrev pub CanJoin : Meta → Graph → ℕ → ℕ → ℕ → Type 0
+abbrev pub CanJoin : Metamodel → Graph → ℕ → ℕ → ℕ → Type 0
 CanJoin m g source reference target = HasFeature m g reference source × IsSomeAnd (target_of m reference) (λ class. IsOf m g class target)
 
 -- Objects and edges stand in the order of their numbers, which differ and are below the next ones. Names differ; where one is `#` and the digits of a number, that number is below the next name's.
-pub record IsTyped (m : Meta) (g : Graph) : Type 0 where
+pub record IsTyped (m : Metamodel) (g : Graph) : Type 0 where
   pub objects_rise : Rise 0 (map (λ object. object.number) g.objects) g.next_object
   pub edges_rise : Rise 0 (map (λ edge. edge.number) g.edges) g.next_edge
   pub names_differ : Differ (map (λ object. object.name) g.objects)
@@ -73,11 +73,11 @@ pub record IsTyped (m : Meta) (g : Graph) : Type 0 where
   pub edges_fit : All (λ edge. CanJoin m g edge.source edge.reference edge.target) g.edges
 
 -- Edges stand object by object, and of one object in the order of its class's features.
-abbrev pub EdgeBefore : Meta → Graph → Edge → Edge → Type 0
+abbrev pub EdgeBefore : Metamodel → Graph → Edge → Edge → Type 0
 EdgeBefore m g e f = (e.source < f.source) ⊎ ((e.source ≡ f.source) × Stands g (λ c. position_or_len (eqb e.reference) (features_of m c) ≤ position_or_len (eqb f.reference) (features_of m c)) e.source)
 
 -- A graph from which a journal begins: numbers are places, and the next name is the first above all names of this form.
-pub record IsOpening (m : Meta) (g : Graph) : Type 0 where
+pub record IsOpening (m : Metamodel) (g : Graph) : Type 0 where
   pub typed : IsTyped m g
   pub objects_numbered : map (λ object. object.number) g.objects ≡ range_with_len 0 (length g.objects)
   pub edges_numbered : map (λ edge. edge.number) g.edges ≡ range_with_len 0 (length g.edges)

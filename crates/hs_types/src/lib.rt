@@ -7,19 +7,27 @@
 //! the list that holds it.
 #![tactic(auto)]
 
+mod closure;
+mod conformance;
 mod entry;
+mod features;
 mod graph;
+mod lookup;
 mod matching;
 mod meta;
 mod plan;
 mod request;
 mod rule;
+#[cfg(test)]
+mod tests;
 mod unit;
 
+pub use closure::{is_below, rows_below};
+pub use conformance::Meta;
 pub use entry::{Cause, Entry, ExtensionNames, Gone, MatchNames, Outcome, Tried, What};
 pub use graph::{Edge, EdgeNo, Graph, ListGraph, Object, ObjectNo, Slot};
 pub use matching::{Extension, Match};
-pub use meta::{Class, ClassNo, DataType, Feature, FeatureKind, FeatureNo, Meta};
+pub use meta::{Class, ClassNo, DataType, Feature, FeatureKind, FeatureNo, Metamodel};
 pub use plan::{End, MadeEdge, MadeObject, Plan, Write};
 pub use request::{Arg, Args, NamedArg, Request};
 pub use rule::{
