@@ -43,13 +43,9 @@ pub data Conforms (m : Metamodel) : ℕ → ℕ → Type 0 where
 abbrev pub IsConcrete : Metamodel → ℕ → Type 0
 IsConcrete m c = IsSomeAnd (class_at m c) (λ class. class.is_abstract ≡ false)
 
--- The class is concrete and conforms to both.
-abbrev pub IsCommon : Metamodel → ℕ → ℕ → ℕ → Type 0
-IsCommon m a b c = IsConcrete m c × Conforms m c a × Conforms m c b
-
 -- Some concrete class conforms to both.
 abbrev pub HaveCommon : Metamodel → ℕ → ℕ → Type 0
-HaveCommon m a b = (c : ℕ) × IsCommon m a b c
+HaveCommon m a b = (c : ℕ) × IsConcrete m c × Conforms m c a × Conforms m c b
 
 -- The values that a data type has: of EInt the whole numbers of 32 bits with a sign, of ELong those of 64 bits.
 abbrev pub is_of_type : DataType → Value → Bool

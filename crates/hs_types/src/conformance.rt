@@ -1,7 +1,7 @@
 ghost use Rattle.std.specs.Prelude.{◌≡◌, ◌↔◌, IsTrue, Some, None, true, map, nat_lt, if◌then◌else◌, IfOk};
 ghost use Rattle.std.specs.List.{list_all};
 ghost use Rattle.std.specs.Option.{option_copied};
-ghost use Rattle.hs_types.specs.Metamodel.{Conforms, HaveCommon, IsCommon, IsConcrete, supers_are_classes, supers_of, class_at, feature_at};
+ghost use Rattle.hs_types.specs.Metamodel.{Conforms, HaveCommon, IsConcrete, supers_are_classes, supers_of, class_at, feature_at};
 ghost use Rattle.hs_types.specs.Supertypes as spec;
 
 use crate::closure::{is_in_row, rows_below};
@@ -86,7 +86,7 @@ impl Meta {
 
     /// Whether it is a concrete class that conforms to both.
     fn is_common(&self, class: usize, one: ClassNo, other: ClassNo) -> bool
-        ensures { IsTrue result ↔ IsCommon self.now one other class }
+        ensures { IsTrue result ↔ (IsConcrete self.now class × Conforms self.now class one × Conforms self.now class other) }
     {
         self.is_concrete(class) && self.is_under(class, one) && self.is_under(class, other)
     }
