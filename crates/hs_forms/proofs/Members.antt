@@ -1,0 +1,50 @@
+-- Lists and objects of JSON, as values are seen.
+use Rattle.std.proofs.Common.{◌≡◌, ◌||◌, ◌+◌, ◌++◌, ℕ, List, [], ◌∷◌, Bool, true, false, not, map, find, Option, Some, None, Ok, Err, cond, string_bytes, String, Global, refl, ap, sym, append_assoc}
+use Rattle.std.specs.List.{list_any}
+use Rattle.std.specs.Option.{option_map}
+use Rattle.serde_json.specs.View.{members_view, items_view, view}
+use Rattle.serde_json.specs.declared.value.Value.{Value}
+use Rattle.serde_json.specs.Data.{Data}
+use Rattle.hs_expr.specs.declared.failure.Failure.{Failure}
+use Rattle.hs_expr.specs.declared.failure.Failure.TheVariants.{Fault, NoMemory}
+use Rattle.hs_expr.specs.Steps.{◌>>=◌, Fails}
+use Rattle.hs_forms.specs.declared.path.Step.{Step}
+use Rattle.hs_forms.specs.declared.path.Step.TheVariants.{Place}
+use Rattle.hs_forms.specs.Form.{IsFurther, Read, each_from, entries, items}
+
+pub items_of_views : (vs : List Value) → items (items_view vs) ≡ map view vs
+items_of_views [] = refl
+items_of_views (v ∷ vs) = ap (λ ds. view v ∷ ds) (items_of_views vs)
+
+pub any_map : {A B : Type 0} (p : B → Bool) (f : A → B) (xs : List A) → list_any p (map f xs) ≡ list_any (λ x. p (f x)) xs
+any_map p f [] = refl
+any_map p f (x ∷ xs) = ap (λ b. p (f x) || b) (any_map p f xs)
+
+-- The first key that passes a test, among what the members are seen as and among the map's own keys.
+pub unknown_in : (p : List ℕ → Bool) (es : List (String Global × Value)) →
+    find p (map (λ entry. entry.0) (entries (members_view es))) ≡ option_map string_bytes (find (λ key. p (string_bytes key)) (map (λ e. e.0) es))
+unknown_in p [] = refl
+unknown_in p (e ∷ es) =
+    elim (p (string_bytes e.0)) as (λ b. cond b (Some (string_bytes e.0)) (find p (map (λ entry. entry.0) (entries (members_view es)))) ≡ option_map string_bytes (cond b (Some e.0) (find (λ key. p (string_bytes key)) (map (λ x. x.0) es)))) [
+      | true ↦ refl
+      | false ↦ unknown_in p es
+    ]
+
+-- What is read so far, and then the rest.
+abbrev pub with_front : {X : Type 0} → List X → Read (List X) → Read (List X)
+with_front front read = read >>= λ xs. Ok (front ++ xs)
+
+pub with_front-cons : {X : Type 0} (front : List X) (x : X) (r : Read (List X)) → with_front front (r >>= λ xs. Ok (x ∷ xs)) ≡ with_front (front ++ x ∷ []) r
+with_front-cons front x (Ok xs) = ap Ok (sym (append_assoc front (x ∷ []) xs))
+with_front-cons front x (Err path) = refl
+
+pub each-next : {X : Type 0} (read : Data → Read X) (i : ℕ) (front : List X) (d : Data) (ds : List Data) (x : X) → read d ≡ Ok x →
+    with_front front (each_from read i (d ∷ ds)) ≡ with_front (front ++ x ∷ []) (each_from read (i + 1) ds)
+each-next read i front d ds x e = rw e (with_front-cons front x (each_from read (i + 1) ds))
+
+-- A fault of an item is the whole list's, told from the list.
+pub each-here : {X : Type 0} (read : Data → Read X) (i : ℕ) (front : List X) (d : Data) (ds : List Data) (failure told : Failure (List Step)) →
+    Fails failure (read d) → IsFurther (Place i) failure told → Fails told (with_front front (each_from read i (d ∷ ds)))
+each-here read i front d ds (Fault path) (Fault further) h e = rw h (ap Err (sym e))
+each-here read i front d ds failure NoMemory h e = tt
+each-here read i front d ds NoMemory (Fault further) h e = absurd e

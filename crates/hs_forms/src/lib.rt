@@ -1,0 +1,15 @@
+//! The forms of JSON values, each with the value that it gives or the first fault and its path.
+//!
+//! A reader is made of steps: an object with known keys ([`only_known`]), keys that have to be there
+//! ([`needed`]), texts, integers and truth values, lists ([`list_of`]) and members ([`members_of`]).
+//! The fault of a form is the [`Path`] of the value that is at fault; what is read at a key or at a
+//! place has it told from there ([`at_key`]). The definitions of the same names say what is read.
+#![tactic(auto)]
+
+mod form;
+mod path;
+mod reading;
+
+pub use form::{at_key, integer_of, needed, only_known, text_of, truth_of};
+pub use path::{Path, Step};
+pub use reading::{list_at, list_of};
