@@ -9,8 +9,8 @@ use Rattle.hs_expr.specs.declared.failure.Failure.{Failure}
 use Rattle.hs_expr.specs.declared.failure.Failure.TheVariants.{Fault, NoMemory}
 use Rattle.hs_expr.specs.Steps.{◌>>=◌, Fails}
 use Rattle.hs_forms.specs.declared.path.Step.{Step}
-use Rattle.hs_forms.specs.declared.path.Step.TheVariants.{Place}
-use Rattle.hs_forms.specs.Form.{IsFurther, Read, each_from, entries, items}
+use Rattle.hs_forms.specs.declared.path.Step.TheVariants.{Key, Place}
+use Rattle.hs_forms.specs.Form.{IsFurther, Read, each_from, each_member, entries, items, within}
 
 pub items_of_views : (vs : List Value) → items (items_view vs) ≡ map view vs
 items_of_views [] = refl
@@ -48,3 +48,13 @@ pub each-here : {X : Type 0} (read : Data → Read X) (i : ℕ) (front : List X)
 each-here read i front d ds (Fault path) (Fault further) h e = rw h (ap Err (sym e))
 each-here read i front d ds failure NoMemory h e = tt
 each-here read i front d ds NoMemory (Fault further) h e = absurd e
+
+pub member-next : {X : Type 0} (read : List ℕ → Data → Read X) (front : List X) (k : List ℕ) (d : Data) (es : List (List ℕ × Data)) (x : X) → within (Key k) (read k d) ≡ Ok x →
+    with_front front (each_member read ((k, d) ∷ es)) ≡ with_front (front ++ x ∷ []) (each_member read es)
+member-next read front k d es x e = rw e (with_front-cons front x (each_member read es))
+
+-- A fault of a member is the whole object's.
+pub member-here : {X : Type 0} (read : List ℕ → Data → Read X) (front : List X) (k : List ℕ) (d : Data) (es : List (List ℕ × Data)) (failure : Failure (List Step)) →
+    Fails failure (within (Key k) (read k d)) → Fails failure (with_front front (each_member read ((k, d) ∷ es)))
+member-here read front k d es (Fault path) h = rw h refl
+member-here read front k d es NoMemory h = tt

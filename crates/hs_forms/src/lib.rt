@@ -12,4 +12,4 @@ mod reading;
 
 pub use form::{at_key, integer_of, needed, only_known, text_of, truth_of};
 pub use path::{Path, Step};
-pub use reading::{list_at, list_of};
+pub use reading::{integer_at, list_at, list_of, members_at, members_of, text_at, truth_at};
