@@ -13,7 +13,8 @@ use Rattle.hs_meta.specs.declared.raw.RawDefault.{RawDefault}
 use Rattle.hs_meta.specs.declared.raw.RawDefault.TheVariants.{LeftOut, Given, NoValue}
 use Rattle.hs_meta.specs.declared.raw.RawReference.{RawReference}
 use Rattle.hs_meta.specs.Names.{data_type_named, differ, is_class, is_identifier}
-use Rattle.hs_meta.specs.Supertypes.{conforms, is_below, supers_of}
+use Rattle.hs_types.specs.Supertypes.{conforms, is_below}
+use Rattle.hs_meta.specs.Supertypes.{supers_of}
 
 -- First: there are more than 256 classes.
 abbrev pub many_classes : List RawClass → List ModelFault

@@ -4,13 +4,14 @@ ghost use Rattle.std.specs.Prelude.{◌≡◌, ◌<◌, ◌++◌, [], map, lengt
 ghost use Rattle.hs_expr.specs.Verdict.{verdict, each};
 ghost use Rattle.hs_meta.specs.Answers.{Tells};
 ghost use Rattle.hs_meta.specs.Faults as spec;
-ghost use Rattle.hs_meta.specs.Rows.{rows as rows_for};
+ghost use Rattle.hs_types.specs.Supertypes.{rows as rows_for};
 ghost use Rattle.hs_meta.specs.Supertypes as supertypes;
+ghost use Rattle.hs_types.specs.Supertypes as closed;
 
 use crate::fault::{ModelFault, ModelFaultKind, ModelPlace};
 use crate::names::differ;
 use crate::raw::{RawAttribute, RawClass, RawReference};
-use crate::supers::is_below;
+use hs_types::is_below;
 use hs_expr::{List, Text, check_each, fault_if};
 use std::alloc::{AllocError, Global};
 
@@ -102,7 +103,7 @@ fn feature_names(
 }
 
 fn conforms(rows: &[List<bool>], c: usize, d: usize) -> bool
-    ensures { (supers : _) → rows.now ≡ rows_for supers → d < length supers → result ≡ supertypes.conforms supers c d }
+    ensures { (supers : _) → rows.now ≡ rows_for supers → d < length supers → result ≡ closed.conforms supers c d }
 {
     c == d || is_below(rows, c, d)
 }

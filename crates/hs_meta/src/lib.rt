@@ -4,7 +4,7 @@
 ghost use Rattle.std.specs.Prelude.{◌≡◌};
 ghost use Rattle.hs_meta.specs.Answers.{Tells};
 ghost use Rattle.hs_meta.specs.Faults as spec;
-ghost use Rattle.hs_meta.specs.Rows.{rows as rows_for};
+ghost use Rattle.hs_types.specs.Supertypes.{rows as rows_for};
 ghost use Rattle.hs_meta.specs.Supertypes as supertypes;
 
 use hs_expr::List;

@@ -1,7 +1,8 @@
 use Rattle.std.proofs.Common.{◌≡◌, ◌++◌, drop, [], if◌then◌else◌}
 use Rattle.hs_expr.specs.Verdict.{each_from}
 use Rattle.hs_meta.specs.Faults as spec
-use Rattle.hs_meta.specs.Supertypes.{conforms, supers_of}
+use Rattle.hs_types.specs.Supertypes.{conforms}
+use Rattle.hs_meta.specs.Supertypes.{supers_of}
 use Rattle.hs_meta.proofs.inherited.feature_names.Given as goal
 
 abbrev pub invariant-loop-d : goal.invariant-loop-d

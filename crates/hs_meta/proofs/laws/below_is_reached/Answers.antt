@@ -1,4 +1,4 @@
-use Rattle.hs_meta.proofs.Below.{says_below}
+use Rattle.hs_types.proofs.Below.{says_below}
 use Rattle.hs_meta.proofs.laws.below_is_reached.Goals as goal
 
 pub returns : goal.returns
