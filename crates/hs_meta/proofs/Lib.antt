@@ -1,3 +1,5 @@
 pub mod Answers
 pub mod Rows
 pub mod Below
+pub mod Inheriting
+pub mod Ranked

@@ -5,3 +5,5 @@ pub mod Answers
 pub mod Meaning
 pub mod Samples
 pub mod Rows
+pub mod Ranks
+pub mod Inheriting

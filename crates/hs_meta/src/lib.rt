@@ -13,6 +13,7 @@ use std::alloc::Global;
 mod declared;
 mod examples;
 mod fault;
+mod features;
 mod inherited;
 mod laws;
 mod names;
