@@ -3,3 +3,5 @@ pub mod Rows
 pub mod Below
 pub mod Inheriting
 pub mod Ranked
+pub mod Places
+pub mod Assembled

@@ -7,3 +7,4 @@ pub mod Samples
 pub mod Rows
 pub mod Ranks
 pub mod Inheriting
+pub mod Numbered

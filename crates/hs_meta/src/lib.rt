@@ -10,6 +10,7 @@ ghost use Rattle.hs_meta.specs.Supertypes as supertypes;
 use hs_expr::List;
 use std::alloc::Global;
 
+mod building;
 mod declared;
 mod examples;
 mod fault;
@@ -17,6 +18,7 @@ mod features;
 mod inherited;
 mod laws;
 mod names;
+mod numbers;
 mod raw;
 mod supers;
 #[cfg(test)]
