@@ -5,3 +5,6 @@ pub mod Inheriting
 pub mod Ranked
 pub mod Places
 pub mod Assembled
+pub mod Soundness
+pub mod Order
+pub mod Standing

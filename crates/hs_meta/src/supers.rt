@@ -12,7 +12,7 @@ use hs_expr::{List, Text};
 use std::alloc::{AllocError, Global};
 
 /// The numbers of each class's direct supertypes.
-fn supers_of(alloc: Global, classes: &[RawClass]) -> Result<List<List<usize>>, AllocError>
+pub fn supers_of(alloc: Global, classes: &[RawClass]) -> Result<List<List<usize>>, AllocError>
     ensures { IfOk result (λ supers. supers ≡ spec.supers_of classes.now) }
 {
     let mut supers = List::new(alloc);
@@ -50,7 +50,7 @@ pub fn rows_of(alloc: Global, classes: &[RawClass]) -> Result<List<List<bool>>, 
 
 /// For each class a row that says of every class whether it is below that one.
 #[tactic(auto, using(crate::proofs::Rows::one_row_more))]
-fn below_each(alloc: Global, supers: &[List<usize>]) -> Result<List<List<bool>>, AllocError>
+pub fn below_each(alloc: Global, supers: &[List<usize>]) -> Result<List<List<bool>>, AllocError>
     ensures { IfOk result (λ made. made ≡ rows_for supers.now) }
 {
     let mut rows = List::new(alloc);
