@@ -3,18 +3,50 @@
 ghost use Rattle.std.specs.Prelude.{◌≡◌, ◌++◌, ◌∷◌, [], ◌≤◌, List, length, map, IfOk, OnOk};
 ghost use Rattle.std.specs.List.{range_with_len};
 ghost use Rattle.hs_meta.specs.declared.raw.RawClass.{RawClass};
+ghost use Rattle.hs_meta.specs.Faults.{faults};
 ghost use Rattle.hs_meta.specs.Meaning as spec;
 ghost use Rattle.hs_meta.specs.Numbered.{KnowsClasses};
+ghost use Rattle.hs_meta.specs.Rows.{rows as rows_for};
+ghost use Rattle.hs_meta.specs.Supertypes.{supers_of};
 
+use crate::checking::Supers;
+use crate::features::{own_numbers, ranks_of, with_inherited};
 use crate::names::data_type_named;
-use crate::numbers::{Numbers, number_of, numbers_named};
-use crate::raw::{RawAttribute, RawClass, RawDefault, RawReference};
+use crate::numbers::{Numbers, number_of, numbers_named, numbers_of};
+use crate::raw::{RawAttribute, RawClass, RawDefault, RawMeta, RawReference};
 use hs_expr::{List, Text, Value};
 use hs_types::{Class, ClassNo, DataType, Feature, FeatureKind, FeatureNo, Meta};
 use std::alloc::{AllocError, Global};
 
+/// The metamodel of what is free of faults.
+pub fn built(alloc: Global, raw: RawMeta, supers: &Supers) -> Result<Meta, AllocError>
+    requires free { faults raw.classes ≡ [] }
+    requires supers { supers.now ≡ record { direct = supers_of raw.classes; rows = rows_for (supers_of raw.classes) } }
+    ensures { IfOk result (λ meta. meta ≡ spec.meant raw) }
+{
+    let RawMeta { format, classes } = raw;
+    let features = features_of_each(alloc, classes.as_slice(), supers)?;
+    let numbers = numbers_of(alloc, classes.as_slice())?;
+    meta_of(alloc, format, classes, &numbers, features.as_slice())
+}
+
+/// The features of each class.
+fn features_of_each(
+    alloc: Global,
+    classes: &[RawClass],
+    supers: &Supers,
+) -> Result<List<List<FeatureNo>>, AllocError>
+    requires free { faults classes.now ≡ [] }
+    requires supers { supers.now ≡ record { direct = supers_of classes.now; rows = rows_for (supers_of classes.now) } }
+    ensures { IfOk result (λ features. features ≡ map (spec.features_at classes.now) (range_with_len 0 (length classes.now))) }
+{
+    let own = own_numbers(alloc, classes)?;
+    let ranks = ranks_of(alloc, supers.rows.as_slice())?;
+    with_inherited(alloc, supers.direct.as_slice(), ranks.as_slice(), own)
+}
+
 /// The metamodel of these classes, whose numbers and whose features are found.
-pub fn meta_of(
+fn meta_of(
     alloc: Global,
     format: u8,
     classes: List<RawClass>,

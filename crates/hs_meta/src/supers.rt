@@ -40,14 +40,6 @@ fn numbers_of(
     Ok(numbers)
 }
 
-/// The rows of the classes' supertypes.
-pub fn rows_of(alloc: Global, classes: &[RawClass]) -> Result<List<List<bool>>, AllocError>
-    ensures { IfOk result (λ made. made ≡ rows_for (spec.supers_of classes.now)) }
-{
-    let supers = supers_of(alloc, classes)?;
-    below_each(alloc, supers.as_slice())
-}
-
 /// For each class a row that says of every class whether it is below that one.
 #[tactic(auto, using(crate::proofs::Rows::one_row_more))]
 pub fn below_each(alloc: Global, supers: &[List<usize>]) -> Result<List<List<bool>>, AllocError>
