@@ -8,3 +8,4 @@ pub mod Assembled
 pub mod Soundness
 pub mod Order
 pub mod Standing
+pub mod Items

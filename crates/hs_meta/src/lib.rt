@@ -27,7 +27,7 @@ mod tests;
 
 pub use examples::{cycles, inheritance};
 pub use fault::{ModelFault, ModelFaultKind, ModelPlace};
-pub use laws::below_is_reached;
+pub use laws::{below_is_reached, metamodels_are_meant};
 pub use raw::{RawAttribute, RawClass, RawDefault, RawMeta, RawReference};
 
 /// The metamodel of what is written, where that is free of faults, and else the first fault of the
