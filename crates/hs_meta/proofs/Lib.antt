@@ -9,3 +9,6 @@ pub mod Soundness
 pub mod Order
 pub mod Standing
 pub mod Items
+pub mod MeantMeta
+pub mod MeantFeatures
+pub mod IsMeta

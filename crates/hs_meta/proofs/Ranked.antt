@@ -27,7 +27,7 @@ none (n ∷ ns) h = absurd (h n (has-head n ns))
 
 module _ (supers own : List (List ℕ)) (ranks : List ℕ) (ranked : AreRanked supers ranks) where
   -- Beyond a class's rank more steps find nothing more.
-  steady : (n c : ℕ) → get_or ranks c 0 ≤ n → features_within supers own (suc n) c ≡ features_within supers own n c
+  pub steady : (n c : ℕ) → get_or ranks c 0 ≤ n → features_within supers own (suc n) c ≡ features_within supers own n c
   steady zero c h =
       ap (λ ns. each_once (flat_map (features_within supers own zero) ns) ++ get_or own c []) (none (get_or supers c []) (λ s e. let r = ranked c s e in absurd (omega arith)))
   steady (suc n) c h =
