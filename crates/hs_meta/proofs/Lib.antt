@@ -1,2 +1,14 @@
 pub mod Answers
 pub mod Below
+pub mod Rowed
+pub mod Inheriting
+pub mod Ranked
+pub mod Places
+pub mod Assembled
+pub mod Soundness
+pub mod Order
+pub mod Standing
+pub mod Items
+pub mod MeantMeta
+pub mod MeantFeatures
+pub mod IsMeta

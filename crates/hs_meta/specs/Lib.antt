@@ -4,3 +4,6 @@ pub mod Faults
 pub mod Answers
 pub mod Meaning
 pub mod Samples
+pub mod Ranks
+pub mod Inheriting
+pub mod Numbered

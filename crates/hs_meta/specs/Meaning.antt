@@ -1,7 +1,7 @@
 -- The metamodel that written classes mean, where they have no fault.
-use Rattle.std.specs.Prelude.{ℕ, zero, suc, ◌+◌, ℤ, pos, negsuc, List, [], ◌∷◌, ◌++◌, map, length, take, false, slice_get, Option, Some, None}
-use Rattle.std.specs.List.{flat_map, filter_map, range_with_len, sum_by}
-use Rattle.std.specs.Option.{option_map, unwrap_or}
+use Rattle.std.specs.Prelude.{ℕ, zero, suc, ◌+◌, ℤ, pos, negsuc, List, [], ◌∷◌, ◌++◌, map, length, get_or, false, Option, Some, None}
+use Rattle.std.specs.List.{flat_map, filter_map, range_with_len}
+use Rattle.std.specs.Option.{unwrap_or}
 use Rattle.hs_expr.specs.declared.value.Value.{Value}
 use Rattle.hs_expr.specs.declared.value.Value.TheVariants as value
 use Rattle.hs_expr.specs.Verdict.{each}
@@ -19,6 +19,7 @@ use Rattle.hs_meta.specs.declared.raw.RawDefault.TheVariants.{LeftOut, Given, No
 use Rattle.hs_meta.specs.declared.raw.RawMeta.{RawMeta}
 use Rattle.hs_meta.specs.declared.raw.RawReference.{RawReference}
 use Rattle.hs_meta.specs.Names.{class_named, data_type_named}
+use Rattle.hs_meta.specs.Supertypes.{supers_of}
 
 -- What an attribute of this type has where nothing is given.
 abbrev pub plain_value : DataType → Value
@@ -58,25 +59,30 @@ own_features classes c class = map (attribute_of c) class.attributes ++ map (ref
 abbrev pub own_count : RawClass → ℕ
 own_count class = length class.attributes + length class.references
 
--- The numbers of the features that class c owns: features are numbered class by class.
-abbrev pub own_numbers : List RawClass → ℕ → List ℕ
-own_numbers classes c = unwrap_or (option_map (λ class. range_with_len (sum_by own_count (take c classes)) (own_count class)) (slice_get classes c)) []
+-- The numbers of the features that each class owns: features are numbered class by class, from this number on.
+abbrev pub own_numbers_from : ℕ → List RawClass → List (List ℕ)
+own_numbers_from first [] = []
+own_numbers_from first (class ∷ classes) = range_with_len first (own_count class) ∷ own_numbers_from (first + own_count class) classes
+
+abbrev pub own_numbers : List RawClass → List (List ℕ)
+own_numbers classes = own_numbers_from 0 classes
 
 -- The numbers of a class's direct supertypes.
 abbrev pub direct_supers : List RawClass → RawClass → List ℕ
 direct_supers classes class = filter_map (class_named classes) class.supers
 
-abbrev pub supers_at : List RawClass → ℕ → List ℕ
-supers_at classes c = unwrap_or (option_map (direct_supers classes) (slice_get classes c)) []
+-- The features of class c, by the direct supertypes and the own features of each class: the inherited ones, supertype by supertype, each once, and then its own. Supertypes are followed for at most so many steps.
+abbrev pub features_within : List (List ℕ) → List (List ℕ) → ℕ → ℕ → List ℕ
+features_within supers own zero c = get_or own c []
+features_within supers own (suc steps) c = each_once (flat_map (features_within supers own steps) (get_or supers c [])) ++ get_or own c []
 
--- The features of class c: the inherited ones, supertype by supertype, each once, and then its own. Supertypes are followed for at most so many steps.
-abbrev pub features_within : List RawClass → ℕ → ℕ → List ℕ
-features_within classes zero c = own_numbers classes c
-features_within classes (suc steps) c = each_once (flat_map (features_within classes steps) (supers_at classes c)) ++ own_numbers classes c
+-- No chain of supertypes is longer than there are classes.
+abbrev pub features_at : List RawClass → ℕ → List ℕ
+features_at classes c = features_within (supers_of classes) (own_numbers classes) (length classes) c
 
 abbrev pub class_of : List RawClass → ℕ → RawClass → Class
-class_of classes c class = record { name = class.name; is_abstract = class.is_abstract; supers = direct_supers classes class; features = features_within classes (length classes) c }
+class_of classes c class = record { name = class.name; is_abstract = class.is_abstract; supers = direct_supers classes class; features = features_at classes c }
 
--- Classes and features are numbered in written order. No chain of supertypes is longer than there are classes.
+-- Classes and features are numbered in written order.
 abbrev pub meant : RawMeta → Metamodel
 meant raw = record { format = raw.format; classes = each (λ c class. class_of raw.classes c class ∷ []) raw.classes; features = each (own_features raw.classes) raw.classes }

@@ -1,21 +1,25 @@
-//! Metamodels as they are written, and the first fault of what is written.
+//! Metamodels as they are written, the first fault of what is written, and the metamodel that it
+//! means where it has none.
 #![tactic(auto)]
 
 ghost use Rattle.std.specs.Prelude.{◌≡◌};
-ghost use Rattle.hs_meta.specs.Answers.{Tells};
+ghost use Rattle.hs_meta.specs.Answers.{Builds, Tells};
 ghost use Rattle.hs_meta.specs.Faults as spec;
-ghost use Rattle.hs_types.specs.Supertypes.{rows as rows_for};
-ghost use Rattle.hs_meta.specs.Supertypes as supertypes;
+ghost use Rattle.hs_meta.specs.Meaning.{meant};
 
-use hs_expr::List;
+use hs_types::Metamodel;
 use std::alloc::Global;
 
+mod building;
+mod checking;
 mod declared;
 mod examples;
 mod fault;
+mod features;
 mod inherited;
 mod laws;
 mod names;
+mod numbers;
 mod raw;
 mod supers;
 #[cfg(test)]
@@ -23,42 +27,23 @@ mod tests;
 
 pub use examples::{cycles, inheritance};
 pub use fault::{ModelFault, ModelFaultKind, ModelPlace};
-pub use laws::below_is_reached;
+pub use laws::{below_is_reached, metamodels_are_meant};
 pub use raw::{RawAttribute, RawClass, RawDefault, RawMeta, RawReference};
+
+/// The metamodel of what is written, where that is free of faults, and else the first fault of the
+/// ten checks, each over the classes in order.
+pub fn build(alloc: Global, raw: RawMeta) -> Result<Metamodel, ModelFault>
+    ensures { Builds result (spec.faults raw.classes) (meant raw) }
+{
+    let supers = checking::checked(alloc, raw.classes.as_slice())?;
+    Ok(building::built(alloc, raw, &supers)?)
+}
 
 /// Whether what is written is free of faults, and else the first fault of the ten checks, each over
 /// the classes in order.
-#[tactic(auto, using(crate::proofs::Answers::steps))]
 pub fn check(alloc: Global, raw: &RawMeta) -> Result<(), ModelFault>
     ensures { Tells result (spec.faults raw.now.classes) }
 {
-    let classes = raw.classes.as_slice();
-    declared::names_fit(classes)?;
-    let rows = supers::rows_of(alloc, classes)?;
-    check_supers(alloc, classes, rows.as_slice())
-}
-
-/// The first fault from the fifth check on.
-#[tactic(auto, using(crate::proofs::Answers::steps))]
-fn check_supers(alloc: Global, classes: &[RawClass], rows: &[List<bool>]) -> Result<(), ModelFault>
-    requires { rows.now ≡ rows_for (supertypes.supers_of classes.now) }
-    ensures { Tells result (spec.faults_from_supers classes.now) }
-{
-    inherited::no_cycle(classes, rows)?;
-    declared::features_fit(classes)?;
-    check_inherited(alloc, classes, rows)
-}
-
-/// The first fault of the last two checks.
-#[tactic(auto, using(crate::proofs::Answers::steps))]
-fn check_inherited(
-    alloc: Global,
-    classes: &[RawClass],
-    rows: &[List<bool>],
-) -> Result<(), ModelFault>
-    requires { rows.now ≡ rows_for (supertypes.supers_of classes.now) }
-    ensures { Tells result (spec.faults_of_inheritance classes.now) }
-{
-    inherited::features_differ(alloc, classes, rows)?;
-    inherited::features_few(alloc, classes, rows)
+    checking::checked(alloc, raw.classes.as_slice())?;
+    Ok(())
 }

@@ -4,16 +4,14 @@ ghost use Rattle.std.specs.Prelude.{◌≡◌, IfOk};
 ghost use Rattle.std.specs.List.{filter_map};
 ghost use Rattle.hs_meta.specs.Names as by_name;
 ghost use Rattle.hs_meta.specs.Supertypes as spec;
-ghost use Rattle.hs_types.specs.Supertypes.{rows as rows_for};
 
 use crate::names::class_named;
 use crate::raw::RawClass;
 use hs_expr::{List, Text};
-use hs_types::rows_below;
 use std::alloc::{AllocError, Global};
 
 /// The numbers of each class's direct supertypes.
-fn supers_of(alloc: Global, classes: &[RawClass]) -> Result<List<List<usize>>, AllocError>
+pub fn supers_of(alloc: Global, classes: &[RawClass]) -> Result<List<List<usize>>, AllocError>
     ensures { IfOk result (λ supers. supers ≡ spec.supers_of classes.now) }
 {
     let mut supers = List::new(alloc);
@@ -39,12 +37,4 @@ fn numbers_of(
         }
     }
     Ok(numbers)
-}
-
-/// The rows of the classes' supertypes.
-pub fn rows_of(alloc: Global, classes: &[RawClass]) -> Result<List<List<bool>>, AllocError>
-    ensures { IfOk result (λ made. made ≡ rows_for (spec.supers_of classes.now)) }
-{
-    let supers = supers_of(alloc, classes)?;
-    rows_below(alloc, supers.as_slice())
 }

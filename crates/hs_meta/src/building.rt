@@ -1,0 +1,225 @@
+//! The metamodel that written classes mean.
+
+ghost use Rattle.std.specs.Prelude.{◌≡◌, ◌++◌, ◌∷◌, [], ◌≤◌, List, length, map, IfOk, OnOk};
+ghost use Rattle.std.specs.List.{range_with_len};
+ghost use Rattle.hs_meta.specs.declared.raw.RawClass.{RawClass};
+ghost use Rattle.hs_meta.specs.Faults.{faults};
+ghost use Rattle.hs_meta.specs.Meaning as spec;
+ghost use Rattle.hs_meta.specs.Numbered.{KnowsClasses};
+ghost use Rattle.hs_types.specs.Supertypes.{rows as rows_for};
+ghost use Rattle.hs_meta.specs.Supertypes.{supers_of};
+
+use crate::checking::Supers;
+use crate::features::{own_numbers, ranks_of, with_inherited};
+use crate::names::data_type_named;
+use crate::numbers::{Numbers, number_of, numbers_named, numbers_of};
+use crate::raw::{RawAttribute, RawClass, RawDefault, RawMeta, RawReference};
+use hs_expr::{List, Text, Value};
+use hs_types::{Class, ClassNo, DataType, Feature, FeatureKind, FeatureNo, Metamodel};
+use std::alloc::{AllocError, Global};
+
+/// The metamodel of what is free of faults.
+pub fn built(alloc: Global, raw: RawMeta, supers: &Supers) -> Result<Metamodel, AllocError>
+    requires free { faults raw.classes ≡ [] }
+    requires supers { supers.now ≡ record { direct = supers_of raw.classes; rows = rows_for (supers_of raw.classes) } }
+    ensures { IfOk result (λ meta. meta ≡ spec.meant raw) }
+{
+    let RawMeta { format, classes } = raw;
+    let features = features_of_each(alloc, classes.as_slice(), supers)?;
+    let numbers = numbers_of(alloc, classes.as_slice())?;
+    meta_of(alloc, format, classes, &numbers, features.as_slice())
+}
+
+/// The features of each class.
+fn features_of_each(
+    alloc: Global,
+    classes: &[RawClass],
+    supers: &Supers,
+) -> Result<List<List<FeatureNo>>, AllocError>
+    requires free { faults classes.now ≡ [] }
+    requires supers { supers.now ≡ record { direct = supers_of classes.now; rows = rows_for (supers_of classes.now) } }
+    ensures { IfOk result (λ features. features ≡ map (spec.features_at classes.now) (range_with_len 0 (length classes.now))) }
+{
+    let own = own_numbers(alloc, classes)?;
+    let ranks = ranks_of(alloc, supers.rows.as_slice())?;
+    with_inherited(alloc, supers.direct.as_slice(), ranks.as_slice(), own)
+}
+
+/// The metamodel of these classes, whose numbers and whose features are found.
+fn meta_of(
+    alloc: Global,
+    format: u8,
+    classes: List<RawClass>,
+    numbers: &Numbers,
+    features: &[List<FeatureNo>],
+) -> Result<Metamodel, AllocError>
+    requires few { length classes ≤ 256 }
+    requires numbered { KnowsClasses numbers.now classes }
+    requires found { features.now ≡ map (spec.features_at classes) (range_with_len 0 (length classes)) }
+    ensures { IfOk result (λ meta. meta ≡ spec.meant (record { format = format; classes = classes })) }
+{
+    let mut meta = Metamodel {
+        format,
+        classes: List::new(alloc),
+        features: List::new(alloc),
+    };
+    for class in classes.into_vec() {
+        let number = meta.classes.len();
+        let features = features[number].clone()?;
+        add_class(alloc, class, number as ClassNo, features, numbers, &mut meta)?;
+    }
+    Ok(meta)
+}
+
+/// Adds a class, and the features that it owns.
+fn add_class(
+    alloc: Global,
+    class: RawClass,
+    number: ClassNo,
+    features: List<FeatureNo>,
+    numbers: &Numbers,
+    meta: &mut Metamodel,
+) -> Result<(), AllocError>
+    ensures { (classes : List RawClass) → KnowsClasses numbers.now classes
+        → OnOk result (meta.new ≡ record { format = meta.old.format;
+            classes = meta.old.classes ++ (record { name = class.name; is_abstract = class.is_abstract; supers = spec.direct_supers classes class; features = features }) ∷ [];
+            features = meta.old.features ++ spec.own_features classes number class }) }
+{
+    let RawClass {
+        name,
+        is_abstract,
+        supers,
+        attributes,
+        references,
+    } = class;
+    let supers = numbers_named(alloc, numbers, supers.as_slice())?;
+    meta.classes.push(Class {
+        name,
+        is_abstract,
+        supers,
+        features,
+    })?;
+    add_features(alloc, number, attributes, references, numbers, &mut meta.features)?;
+    Ok(())
+}
+
+/// Adds the features that a class owns, its attributes before its references.
+#[tactic(auto, using(std::proofs::lemmas::List::append_assoc))]
+fn add_features(
+    alloc: Global,
+    owner: ClassNo,
+    attributes: List<RawAttribute>,
+    references: List<RawReference>,
+    numbers: &Numbers,
+    features: &mut List<Feature>,
+) -> Result<(), AllocError>
+    ensures { (classes : List RawClass) → KnowsClasses numbers.now classes
+        → OnOk result (features.new ≡ features.old ++ (map (spec.attribute_of owner) attributes ++ map (spec.reference_of classes owner) references)) }
+{
+    add_attributes(alloc, owner, attributes, features)?;
+    add_references(owner, references, numbers, features)?;
+    Ok(())
+}
+
+fn add_attributes(
+    alloc: Global,
+    owner: ClassNo,
+    attributes: List<RawAttribute>,
+    features: &mut List<Feature>,
+) -> Result<(), AllocError>
+    ensures { OnOk result (features.new ≡ features.old ++ map (spec.attribute_of owner) attributes) }
+{
+    for attribute in attributes.into_vec() {
+        features.push(attribute_of(alloc, owner, attribute))?;
+    }
+    Ok(())
+}
+
+fn attribute_of(alloc: Global, owner: ClassNo, attribute: RawAttribute) -> Feature
+    ensures { result ≡ spec.attribute_of owner attribute }
+{
+    let RawAttribute {
+        name,
+        data_type,
+        default,
+    } = attribute;
+    let data_type = data_type_named(&data_type).unwrap_or(DataType::EString);
+    Feature {
+        owner,
+        name,
+        kind: FeatureKind::Attribute {
+            data_type,
+            default: default_value(alloc, data_type, default),
+        },
+    }
+}
+
+fn default_value(alloc: Global, data_type: DataType, default: RawDefault) -> Value
+    ensures { result ≡ spec.default_value data_type default }
+{
+    match default {
+        RawDefault::Given(value) => value,
+        RawDefault::LeftOut | RawDefault::NoValue => plain_value(alloc, data_type),
+    }
+}
+
+/// What an attribute of this type has where nothing is given.
+fn plain_value(alloc: Global, data_type: DataType) -> Value
+    ensures { result ≡ spec.plain_value data_type }
+{
+    match data_type {
+        DataType::EInt | DataType::ELong => Value::Int(0),
+        DataType::EBoolean => Value::Bool(false),
+        DataType::EString => Value::Text(Text::from_string(String::new(alloc))),
+    }
+}
+
+fn add_references(
+    owner: ClassNo,
+    references: List<RawReference>,
+    numbers: &Numbers,
+    features: &mut List<Feature>,
+) -> Result<(), AllocError>
+    ensures { (classes : List RawClass) → KnowsClasses numbers.now classes
+        → OnOk result (features.new ≡ features.old ++ map (spec.reference_of classes owner) references) }
+{
+    for reference in references.into_vec() {
+        features.push(reference_of(owner, reference, numbers))?;
+    }
+    Ok(())
+}
+
+fn reference_of(owner: ClassNo, reference: RawReference, numbers: &Numbers) -> Feature
+    ensures { (classes : List RawClass) → KnowsClasses numbers.now classes → result ≡ spec.reference_of classes owner reference }
+{
+    let RawReference {
+        name,
+        target,
+        containment,
+        lower,
+        upper,
+    } = reference;
+    Feature {
+        owner,
+        name,
+        kind: FeatureKind::Reference {
+            target: number_of(numbers, &target),
+            containment,
+            lower: least(lower),
+            upper: most(upper),
+        },
+    }
+}
+
+fn least(lower: i64) -> u64
+    ensures { result ≡ spec.least lower }
+{
+    u64::try_from(lower).unwrap_or(0)
+}
+
+/// A bound below zero is none.
+fn most(upper: i64) -> Option<u64>
+    ensures { result ≡ spec.most upper }
+{
+    u64::try_from(upper).ok()
+}
