@@ -2,13 +2,14 @@
 //! means where it has none.
 #![tactic(auto)]
 
-ghost use Rattle.std.specs.Prelude.{◌≡◌};
+ghost use Rattle.std.specs.Prelude.{◌≡◌, true, IfOk};
 ghost use Rattle.hs_meta.specs.Answers.{Builds, Tells};
 ghost use Rattle.hs_meta.specs.Faults as spec;
 ghost use Rattle.hs_meta.specs.Meaning.{meant};
+ghost use Rattle.hs_types.specs.Metamodel.{supers_are_classes};
 
-use hs_types::Metamodel;
-use std::alloc::Global;
+use hs_types::{Meta, Metamodel};
+use std::alloc::{AllocError, Global};
 
 mod building;
 mod checking;
@@ -32,11 +33,23 @@ pub use raw::{RawAttribute, RawClass, RawDefault, RawMeta, RawReference};
 
 /// The metamodel of what is written, where that is free of faults, and else the first fault of the
 /// ten checks, each over the classes in order.
-pub fn build(alloc: Global, raw: RawMeta) -> Result<Metamodel, ModelFault>
+pub fn build(alloc: Global, raw: RawMeta) -> Result<Meta, ModelFault>
     ensures { Builds result (spec.faults raw.classes) (meant raw) }
 {
     let supers = checking::checked(alloc, raw.classes.as_slice())?;
-    Ok(building::built(alloc, raw, &supers)?)
+    let plain = building::built(alloc, raw, &supers)?;
+    Ok(closed(alloc, plain)?)
+}
+
+/// The metamodel with its conformance closed.
+fn closed(alloc: Global, plain: Metamodel) -> Result<Meta, AllocError>
+    requires { supers_are_classes plain ≡ true }
+    ensures { IfOk result (λ meta. meta ≡ plain) }
+{
+    match Meta::new(alloc, plain)? {
+        Some(meta) => Ok(meta),
+        None => unreachable!(),
+    }
 }
 
 /// Whether what is written is free of faults, and else the first fault of the ten checks, each over
