@@ -1,1 +1,2 @@
 pub mod MetaForm
+pub mod Meta

@@ -1,0 +1,123 @@
+//! Metamodels, read whole.
+
+ghost use Rattle.std.specs.Prelude.{◌≡◌, ◌∷◌, [], IfOk};
+ghost use Rattle.serde_json.specs.View.{view};
+ghost use Rattle.hs_expr.specs.Steps.{Gives};
+ghost use Rattle.hs_forms.specs.declared.path.Step.TheVariants as step;
+ghost use Rattle.hs_meta.specs.Answers.{Builds};
+ghost use Rattle.hs_meta.specs.Faults.{faults};
+ghost use Rattle.hs_meta.specs.Meaning.{meant};
+ghost use Rattle.hs_model.specs.Meta as spec;
+
+use crate::meta_form::raw_meta;
+use crate::{Fault, Wrong};
+use hs_expr::{Failure, Text};
+use hs_forms::{Path, Step};
+use hs_meta::{ModelFault, ModelFaultKind, ModelPlace, RawMeta, build};
+use hs_types::Meta;
+use serde_json::Value;
+use std::alloc::{AllocError, Global};
+
+/// Why a metamodel isn't read.
+pub type MetaFailure = Failure<Fault<ModelFaultKind>>;
+
+/// The metamodel that the value is; else its first fault: those of its form come first, part by part,
+/// and then those of its meaning.
+#[tactic(auto, unfolding(crate::specs::Meta::meta_at))]
+pub fn read_meta(alloc: Global, value: &Value) -> Result<Meta, MetaFailure>
+    ensures { Gives result (spec.meta_at (view value.now)) }
+{
+    let raw = formed(raw_meta(alloc, value))?;
+    meta_of(alloc, raw)
+}
+
+/// What was read of a form, its fault as a part's.
+pub fn formed<T: Drop, K>(read: Result<T, Failure<Path>>) -> Result<T, Failure<Fault<K>>>
+    ensures { (meant : _) → Gives read meant → Gives result (spec.formed meant) }
+{
+    match read {
+        Ok(value) => Ok(value),
+        Err(Failure::Fault(path)) => Err(Failure::Fault(Fault {
+            path,
+            wrong: Wrong::Form,
+        })),
+        Err(Failure::NoMemory) => Err(Failure::NoMemory),
+    }
+}
+
+/// The metamodel of what is written.
+fn meta_of(alloc: Global, raw: RawMeta) -> Result<Meta, MetaFailure>
+    ensures { Gives result (spec.judged (faults raw.classes) (meant raw)) }
+{
+    match build(alloc, raw) {
+        Ok(meta) => Ok(meta),
+        Err(ModelFault::Fault { place, kind }) => Err(Failure::Fault(Fault {
+            path: path_of(alloc, place)?,
+            wrong: Wrong::Meaning(kind),
+        })),
+        Err(ModelFault::NoMemory) => Err(Failure::NoMemory),
+    }
+}
+
+/// The path of a place in a metamodel.
+fn path_of(alloc: Global, place: ModelPlace) -> Result<Path, AllocError>
+    ensures { IfOk result (λ path. path ≡ spec.path_of place) }
+{
+    match place {
+        ModelPlace::Classes => key(alloc, "classes", Path::new(alloc)),
+        ModelPlace::Class { class } => in_class(alloc, class, Path::new(alloc)),
+        ModelPlace::ClassName { class } => in_class(alloc, class, named(alloc, "name")?),
+        ModelPlace::Super { class, number } => {
+            in_part(alloc, class, "supers", number, Path::new(alloc))
+        }
+        ModelPlace::AttributeName { class, number } => {
+            in_part(alloc, class, "attributes", number, named(alloc, "name")?)
+        }
+        ModelPlace::AttributeType { class, number } => {
+            in_part(alloc, class, "attributes", number, named(alloc, "type")?)
+        }
+        ModelPlace::AttributeDefault { class, number } => {
+            in_part(alloc, class, "attributes", number, named(alloc, "default")?)
+        }
+        ModelPlace::Reference { class, number } => {
+            in_part(alloc, class, "references", number, Path::new(alloc))
+        }
+        ModelPlace::ReferenceName { class, number } => {
+            in_part(alloc, class, "references", number, named(alloc, "name")?)
+        }
+        ModelPlace::ReferenceTarget { class, number } => {
+            in_part(alloc, class, "references", number, named(alloc, "target")?)
+        }
+    }
+}
+
+fn key(alloc: Global, key: &str, inner: Path) -> Result<Path, AllocError>
+    ensures { IfOk result (λ path. path ≡ step.Key key.now ∷ inner) }
+{
+    inner.within(Step::Key(Text::from_str(alloc, key)?))
+}
+
+fn named(alloc: Global, name: &str) -> Result<Path, AllocError>
+    ensures { IfOk result (λ path. path ≡ step.Key name.now ∷ []) }
+{
+    key(alloc, name, Path::new(alloc))
+}
+
+fn in_class(alloc: Global, class: usize, inner: Path) -> Result<Path, AllocError>
+    ensures { IfOk result (λ path. path ≡ spec.in_class class inner) }
+{
+    key(alloc, "classes", inner.within(Step::Place(class))?)
+}
+
+fn in_part(
+    alloc: Global,
+    class: usize,
+    part: &str,
+    number: usize,
+    inner: Path,
+) -> Result<Path, AllocError>
+    ensures { IfOk result (λ path. path ≡ spec.in_class class (step.Key part.now ∷ step.Place number ∷ inner)) }
+{
+    let inner = key(alloc, part, inner.within(Step::Place(number))?)?;
+    in_class(alloc, class, inner)
+}
