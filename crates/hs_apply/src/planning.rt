@@ -10,8 +10,8 @@ ghost use Rattle.hs_apply.specs.Additions.{OnlyMakes, default_slots, made_object
 use hs_expr::{List, Value};
 use hs_finding::image_of;
 use hs_types::{
-    ClassNo, End, MadeEdge, MadeObject, Mark, Match, Meta, ObjectNo,
-    PatternEdge, PatternNode, Plan, Rule, Slot,
+    ClassNo, End, MadeEdge, MadeObject, Mark, Match, Meta, ObjectNo, PatternEdge, PatternNode,
+    Plan, Rule, Slot,
 };
 use std::alloc::{AllocError, Global};
 

@@ -18,7 +18,10 @@ pub fn class_named(meta: &Meta, name: &Text) -> Option<ClassNo>
 fn class_place(meta: &Meta, name: &Text) -> Option<usize>
     ensures { result ≡ position (λ class. same_text class.name name.now) meta.now.classes }
 {
-    meta.plain().classes.iter().position(|class| class.name == *name)
+    meta.plain()
+        .classes
+        .iter()
+        .position(|class| class.name == *name)
 }
 
 /// The first node of this name.

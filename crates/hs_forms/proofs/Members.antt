@@ -1,5 +1,5 @@
 -- Lists and objects of JSON, as values are seen.
-use Rattle.std.proofs.Common.{◌≡◌, ◌||◌, ◌+◌, ◌++◌, ℕ, List, [], ◌∷◌, Bool, true, false, not, map, find, Option, Some, None, Ok, Err, cond, string_bytes, String, Global, refl, ap, sym, append_assoc}
+use Rattle.std.proofs.Common.{◌≡◌, ◌||◌, ◌+◌, ◌++◌, ℕ, List, [], ◌∷◌, Bool, true, false, map, find, Some, Ok, Err, cond, string_bytes, String, Global, refl, ap, sym, append_assoc}
 use Rattle.std.specs.List.{list_any}
 use Rattle.std.specs.Option.{option_map}
 use Rattle.serde_json.specs.View.{members_view, items_view, view}

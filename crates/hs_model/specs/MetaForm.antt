@@ -1,12 +1,11 @@
 -- The form of a metamodel: which keys its parts have, and which kinds of value.
-use Rattle.std.specs.Prelude.{ℕ, ◌≡◌, ℤ, pos, List, [], ◌∷◌, false, Option, Some, None, Result, Ok, Err, codes, if◌then◌else◌}
+use Rattle.std.specs.Prelude.{ℕ, pos, List, [], ◌∷◌, false, Ok, Err, codes, if◌then◌else◌}
 use Rattle.std.specs.Ordering.{int_eq}
 use Rattle.serde_json.specs.Data.{Data, null, boolean, number, string, array, object}
-use Rattle.serde_json.specs.Find.{get}
 use Rattle.hs_expr.specs.declared.value.Value.TheVariants as value
 use Rattle.hs_expr.specs.Steps.{◌>>=◌}
 use Rattle.hs_forms.specs.declared.path.Step.TheVariants.{Key}
-use Rattle.hs_forms.specs.Form.{Read, at_or, integer, left_out, list_of, needed, only_known, text, truth, within}
+use Rattle.hs_forms.specs.Form.{Read, at_or, integer, list_of, needed, only_known, text, truth, within}
 use Rattle.hs_meta.specs.declared.raw.RawAttribute.{RawAttribute}
 use Rattle.hs_meta.specs.declared.raw.RawClass.{RawClass}
 use Rattle.hs_meta.specs.declared.raw.RawDefault.{RawDefault}

@@ -1,10 +1,4 @@
-use Rattle.std.proofs.Common.{◌≡◌, ◌+◌, length, Option, Some, None, take, drop, [], refl, ◌∙◌}
-use Rattle.std.specs.Prelude.{IfSome, IfNone}
-use Rattle.std.specs.Option.{is_some}
-use Rattle.arrayvec.specs.ArrayVec.{ArrayVec}
-use Rattle.hs_types.specs.declared.matching.Match.{Match}
-use Rattle.hs_types.specs.ValidMatch.{IsFirst}
-use Rattle.hs_finding.specs.FirstMatch.{no_args}
+use Rattle.std.proofs.Common.{◌∙◌}
 use Rattle.hs_finding.proofs.Valid.{answer_of}
 use Rattle.hs_finding.proofs.matching.is_applicable.Goals as goal
 
