@@ -1,0 +1,3 @@
+pub mod Conformance
+pub mod Numbers
+pub mod Lists

@@ -1,0 +1,6 @@
+pub mod Names
+pub mod Lookups
+pub mod Links
+pub mod Faults
+pub mod Meaning
+pub mod Answers

@@ -1,0 +1,14 @@
+//! Objects as they are written over a metamodel, the first fault of what is written, and the typed
+//! graph that it means.
+#![tactic(auto)]
+
+mod attrs;
+mod edges;
+mod fault;
+mod lookups;
+mod names;
+mod raw;
+mod values;
+
+pub use fault::{GraphFault, GraphFaultKind, GraphPlace};
+pub use raw::{RawAttr, RawObject, RawRef, RawValue};
