@@ -3,11 +3,14 @@
 #![tactic(auto)]
 
 mod attrs;
+mod classes;
 mod edges;
 mod fault;
 mod lookups;
 mod names;
+mod numbers;
 mod raw;
+mod refs;
 mod values;
 
 pub use fault::{GraphFault, GraphFaultKind, GraphPlace};

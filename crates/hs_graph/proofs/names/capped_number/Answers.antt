@@ -1,6 +1,6 @@
 use Rattle.std.proofs.Common.{rules, ◌≡◌, ◌≤◌, ◌+◌, ◌*◌, ◌-◌, min, get_or, arith}
 use Rattle.std.proofs.lemmas.Int.{clamps}
-use Rattle.hs_graph.proofs.Numbers.{capped_more}
+use Rattle.hs_graph.proofs.Decimals.{capped_more}
 use Rattle.hs_graph.proofs.names.capped_number.Goals as goal
 
 pub loop-digit-preserved : goal.loop-digit-preserved
