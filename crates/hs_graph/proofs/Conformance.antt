@@ -1,6 +1,6 @@
 -- Conformance as a test, and as a relation.
-use Rattle.std.proofs.Common.{ℕ, ◌≡◌, ◌↔◌, ◌⊎◌, inl, inr, ◌||◌, Bool, true, false, eqb, refl, sym, ap, ◌∙◌, subst, arith, rules}
-use Rattle.std.proofs.lemmas.Bool.{both_ways, eqb-true, eq-eqb}
+use Rattle.std.proofs.Common.{ℕ, ◌≡◌, ◌↔◌, ◌⊎◌, inl, inr, ◌||◌, Bool, true, false, eqb, refl, sym}
+use Rattle.std.proofs.lemmas.Bool.{eqb-true, eq-eqb}
 use Rattle.hs_types.specs.declared.meta.Metamodel.{Metamodel}
 use Rattle.hs_types.specs.Metamodel.{Conforms, supers_of}
 use Rattle.hs_types.specs.Supertypes.{IsBelow, conforms, is_below}

@@ -1,5 +1,5 @@
 -- Lists that are given beside each other.
-use Rattle.std.proofs.Common.{ℕ, ◌+◌, ◌<◌, ◌≡◌, List, [], ◌∷◌, map, length, get_or, slice_get, Some, refl, ap, sym, ◌∙◌, suc, arith}
+use Rattle.std.proofs.Common.{ℕ, ◌<◌, ◌≡◌, List, [], ◌∷◌, map, length, get_or, slice_get, Some, refl, ap, ◌∙◌, suc, arith}
 use Rattle.std.proofs.lemmas.List.{get_or-map}
 use Rattle.std.proofs.lemmas.Option.{get_or_from_slice_get, slice_get_within}
 use Rattle.hs_types.specs.declared.meta.Metamodel.{Metamodel}

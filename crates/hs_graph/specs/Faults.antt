@@ -1,12 +1,10 @@
 -- All faults of written objects over a metamodel, in the order in which they are told: six checks, each over the objects.
 use Rattle.std.specs.Prelude.{ℕ, List, [], ◌∷◌, ◌++◌, length, take, Bool, true, false, not, nat_le, nat_lt, ◌&&◌, is_some, Option, Some, None, slice_get}
-use Rattle.std.specs.List.{list_any}
 use Rattle.std.specs.Option.{option_map_or}
 use Rattle.hs_expr.specs.declared.value.Value.{Value}
 use Rattle.hs_expr.specs.declared.value.Value.TheVariants as value
 use Rattle.hs_expr.specs.Verdict.{each, fault_if}
 use Rattle.hs_types.specs.declared.meta.Metamodel.{Metamodel}
-use Rattle.hs_types.specs.Lists.{same_text}
 use Rattle.hs_types.specs.Metamodel.{class_at, fits, supers_of, target_of}
 use Rattle.hs_types.specs.Supertypes.{conforms}
 use Rattle.hs_graph.specs.declared.fault.GraphFault.{GraphFault}

@@ -20,6 +20,7 @@ use std::collections::HashMap;
 pub type Numbers = HashMap<String, ObjectNo>;
 
 /// What the objects' names come to.
+#[derive(Drop)]
 pub struct Named {
     pub numbers: Numbers,
     pub next_name: u64,
