@@ -41,10 +41,13 @@ name_faults objects = each (name_faults_at objects) objects
 abbrev pub is_abstract : Metamodel → ℕ → Bool
 is_abstract m c = option_map_or (λ class. class.is_abstract) (class_at m c) false
 
+-- What is wrong with a class that may be there.
+abbrev pub kind_faults : Metamodel → ℕ → Option ℕ → List GraphFault
+kind_faults m i None = fault (place.ObjectClass i) kind.UnknownClass ∷ []
+kind_faults m i (Some c) = fault_if (is_abstract m c) (fault (place.Object i) kind.Abstract)
+
 abbrev pub class_faults_at : Metamodel → ℕ → RawObject → List GraphFault
-class_faults_at m i object =
-    fault_if (not (is_some (class_named m object.class))) (fault (place.ObjectClass i) kind.UnknownClass)
-    ++ fault_if (is_abstract m (class_of m object)) (fault (place.Object i) kind.Abstract)
+class_faults_at m i object = kind_faults m i (class_named m object.class)
 
 -- Third: a class that isn't there, or is abstract.
 abbrev pub class_faults : Metamodel → List RawObject → List GraphFault

@@ -4,3 +4,4 @@ pub mod Links
 pub mod Faults
 pub mod Meaning
 pub mod Answers
+pub mod Samples

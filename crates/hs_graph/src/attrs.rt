@@ -111,7 +111,9 @@ fn slot_of(
 {
     Ok(Slot {
         attribute,
-        value: value_given(meta, attrs, attribute).unwrap_or(default).clone()?,
+        value: value_given(meta, attrs, attribute)
+            .unwrap_or(default)
+            .clone()?,
     })
 }
 
@@ -126,7 +128,9 @@ fn value_given<'a>(meta: &Meta, attrs: &'a [RawAttr], attribute: FeatureNo) -> O
 fn attr_for<'a>(meta: &Meta, attrs: &'a [RawAttr], attribute: FeatureNo) -> Option<&'a RawAttr>
     ensures { option_copied result ≡ find (λ attr. lookups.is_attribute_named meta.now attr.name attribute) attrs.now }
 {
-    attrs.iter().find(|attr| is_attribute_named(meta, &attr.name, attribute))
+    attrs
+        .iter()
+        .find(|attr| is_attribute_named(meta, &attr.name, attribute))
 }
 
 fn value_in(written: &RawValue) -> Option<&Value>

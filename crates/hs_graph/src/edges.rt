@@ -53,10 +53,7 @@ pub fn all_links(
             &mut links,
         )?;
         if links.len() > MOST_EDGES {
-            return Err(Failure::Fault(fault(
-                GraphPlace::Graph,
-                GraphFaultKind::Limit,
-            )));
+            return Err(Failure::Fault(fault(GraphPlace::Graph, GraphFaultKind::Limit)));
         }
     }
     Ok(links)
@@ -100,7 +97,8 @@ fn targets_at<'a>(meta: &Meta, refs: &'a [RawRef], feature: FeatureNo) -> &'a [T
 fn ref_for<'a>(meta: &Meta, refs: &'a [RawRef], feature: FeatureNo) -> Option<&'a RawRef>
     ensures { option_copied result ≡ find (λ written. named meta.now written.name feature) refs.now }
 {
-    refs.iter().find(|written| is_reference_named(meta, &written.name, feature))
+    refs.iter()
+        .find(|written| is_reference_named(meta, &written.name, feature))
 }
 
 /// Adds an edge for each target of the source at this reference.

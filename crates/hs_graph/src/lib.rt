@@ -18,6 +18,7 @@ use std::alloc::Global;
 mod attrs;
 mod classes;
 mod edges;
+mod examples;
 mod fault;
 mod lookups;
 mod names;
@@ -25,13 +26,15 @@ mod numbers;
 mod objects;
 mod raw;
 mod refs;
+#[cfg(test)]
+mod tests;
 mod values;
-
-pub use fault::{GraphFault, GraphFaultKind, GraphPlace};
-pub use raw::{RawAttr, RawObject, RawRef, RawValue};
 
 use crate::fault::{fault, told};
 use crate::numbers::Named;
+pub use examples::{meanings, namings, wrongs};
+pub use fault::{GraphFault, GraphFaultKind, GraphPlace};
+pub use raw::{RawAttr, RawObject, RawRef, RawValue};
 
 /// The most objects.
 const MOST_OBJECTS: usize = 200_000;

@@ -48,7 +48,9 @@ pub fn attribute_named(meta: &Meta, class: ClassNo, name: &Text) -> Option<Featu
 fn first_attribute<'a>(meta: &Meta, features: &'a [FeatureNo], name: &Text) -> Option<&'a FeatureNo>
     ensures { option_copied result ≡ find (spec.is_attribute_named meta.now name.now) features.now }
 {
-    features.iter().find(|feature| is_attribute_named(meta, name, **feature))
+    features
+        .iter()
+        .find(|feature| is_attribute_named(meta, name, **feature))
 }
 
 /// The reference of this name among the features of the class.
@@ -61,7 +63,9 @@ pub fn reference_named(meta: &Meta, class: ClassNo, name: &Text) -> Option<Featu
 fn first_reference<'a>(meta: &Meta, features: &'a [FeatureNo], name: &Text) -> Option<&'a FeatureNo>
     ensures { option_copied result ≡ find (spec.is_reference_named meta.now name.now) features.now }
 {
-    features.iter().find(|feature| is_reference_named(meta, name, **feature))
+    features
+        .iter()
+        .find(|feature| is_reference_named(meta, name, **feature))
 }
 
 /// Whether the feature is an attribute of this name.

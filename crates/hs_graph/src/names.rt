@@ -73,5 +73,9 @@ fn capped_number(digits: &[u8]) -> u64
 fn capped(number: u64) -> u64
     ensures { result ≡ min 3000000001 number }
 {
-    if number <= GREATEST { number } else { GREATEST + 1 }
+    if number <= GREATEST {
+        number
+    } else {
+        GREATEST + 1
+    }
 }

@@ -43,7 +43,14 @@ fn refs_right_at(
     ensures { (objects : List RawObject) → classes.now ≡ classes_of meta.now objects → ((name : List ℕ) → get_by_text numbers.now name ≡ place_of (object_names objects) name) → slice_get objects i ≡ Some object.now
         → result ≡ verdict (each (spec.ref_faults_at meta.now (object_names objects) (classes_of meta.now objects) (class_of meta.now object.now) i) object.now.refs) }
 {
-    refs_right_in(meta, numbers, classes, classes[i], i, object.refs.as_slice())
+    refs_right_in(
+        meta,
+        numbers,
+        classes,
+        classes[i],
+        i,
+        object.refs.as_slice(),
+    )
 }
 
 fn refs_right_in(
