@@ -1,0 +1,7 @@
+pub mod Names
+pub mod Lookups
+pub mod Links
+pub mod Faults
+pub mod Meaning
+pub mod Answers
+pub mod Samples

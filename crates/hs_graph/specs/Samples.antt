@@ -1,0 +1,56 @@
+-- A small metamodel with written objects, on which the definitions are tried.
+use Rattle.std.specs.Prelude.{ℕ, pos, List, [], ◌∷◌, Bool, true, false, Option, None, codes}
+use Rattle.hs_expr.specs.declared.value.Value.{Value}
+use Rattle.hs_expr.specs.declared.value.Value.TheVariants as value
+use Rattle.hs_types.specs.declared.meta.Class.{Class}
+use Rattle.hs_types.specs.declared.meta.DataType.TheVariants.{EInt, EString}
+use Rattle.hs_types.specs.declared.meta.FeatureKind.TheVariants.{Attribute, Reference}
+use Rattle.hs_types.specs.declared.meta.Metamodel.{Metamodel}
+use Rattle.hs_graph.specs.declared.raw.RawAttr.{RawAttr}
+use Rattle.hs_graph.specs.declared.raw.RawObject.{RawObject}
+use Rattle.hs_graph.specs.declared.raw.RawRef.{RawRef}
+use Rattle.hs_graph.specs.declared.raw.RawValue.{RawValue}
+use Rattle.hs_graph.specs.declared.raw.RawValue.TheVariants.{Given, NoValue}
+
+abbrev pub sample_class : List ℕ → Bool → List ℕ → List ℕ → Class
+sample_class name is_abstract supers features = record { name = name; is_abstract = is_abstract; supers = supers; features = features }
+
+-- Clients hold accounts, an account has an owner and a balance, which is 5 where none is given, and both have a name from an abstract class.
+abbrev pub bank : Metamodel
+bank = record {
+  format = 1;
+  classes =
+      sample_class (codes "Named") true [] (0 ∷ []) ∷
+      sample_class (codes "Client") false (0 ∷ []) (0 ∷ 1 ∷ []) ∷
+      sample_class (codes "Account") false (0 ∷ []) (0 ∷ 2 ∷ 3 ∷ []) ∷ [];
+  features =
+      record { owner = 0; name = codes "name"; kind = Attribute EString (value.Text []) } ∷
+      record { owner = 1; name = codes "accounts"; kind = Reference 2 true 0 None } ∷
+      record { owner = 2; name = codes "balance"; kind = Attribute EInt (value.Int (pos 5)) } ∷
+      record { owner = 2; name = codes "owner"; kind = Reference 1 false 0 None } ∷ [];
+}
+
+abbrev pub sample_object : List ℕ → List ℕ → List RawAttr → List RawRef → RawObject
+sample_object name class attrs refs = record { name = name; class = class; attrs = attrs; refs = refs }
+
+abbrev pub sample_attr : List ℕ → RawValue → RawAttr
+sample_attr name value = record { name = name; value = value }
+
+abbrev pub sample_ref : List ℕ → List (List ℕ) → RawRef
+sample_ref name targets = record { name = name; targets = targets }
+
+-- A client that holds an account twice, and the account.
+abbrev pub right : List RawObject
+right =
+    sample_object (codes "c1") (codes "Client") (sample_attr (codes "name") (Given (value.Text (codes "Ann"))) ∷ []) (sample_ref (codes "accounts") (codes "#7" ∷ codes "#7" ∷ []) ∷ []) ∷
+    sample_object (codes "#7") (codes "Account") [] (sample_ref (codes "owner") (codes "c1" ∷ []) ∷ []) ∷ []
+
+-- Objects with a fault of each kind, but for the limits.
+abbrev pub wrong : List RawObject
+wrong =
+    sample_object [] (codes "Client") [] [] ∷
+    sample_object (codes "x") (codes "Bank") [] [] ∷
+    sample_object (codes "x") (codes "Named") [] [] ∷
+    sample_object (codes "#09") (codes "Account")
+    (sample_attr (codes "age") (Given (value.Int (pos 1))) ∷ sample_attr (codes "balance") (Given (value.Int (pos 2147483648))) ∷ sample_attr (codes "name") NoValue ∷ [])
+    (sample_ref (codes "accounts") [] ∷ sample_ref (codes "owner") (codes "y" ∷ codes "x" ∷ []) ∷ []) ∷ []

@@ -1,0 +1,50 @@
+//! The classes of objects.
+
+ghost use Rattle.std.specs.Prelude.{◌≡◌, ◌≤◌, ◌^◌, length};
+ghost use Rattle.hs_graph.specs.Answers.{PassesWith, unless};
+ghost use Rattle.hs_graph.specs.Faults as spec;
+ghost use Rattle.hs_graph.specs.Lookups as lookups;
+
+use crate::fault::{GraphFault, GraphFaultKind, GraphPlace, fault};
+use crate::lookups::{class_named, is_abstract};
+use crate::raw::RawObject;
+use hs_expr::{Failure, List};
+use hs_types::{ClassNo, Meta};
+use std::alloc::Global;
+
+/// The number of each object's class, or the first class that isn't there or is abstract.
+pub fn classes_of(
+    alloc: Global,
+    meta: &Meta,
+    objects: &[RawObject],
+) -> Result<List<ClassNo>, Failure<GraphFault>>
+    requires { length meta.now.classes ≤ 2 ^ 16 }
+    ensures { PassesWith (λ classes. classes ≡ lookups.classes_of meta.now objects.now) result (spec.class_faults meta.now objects.now) }
+{
+    let mut classes = List::new(alloc);
+    for (i, object) in objects.iter().enumerate() {
+        match class_of(meta, i, object) {
+            Ok(class) => classes.push(class)?,
+            Err(fault) => return Err(Failure::Fault(fault)),
+        }
+    }
+    Ok(classes)
+}
+
+/// The number of the object's class.
+fn class_of(meta: &Meta, i: usize, object: &RawObject) -> Result<ClassNo, GraphFault>
+    requires { length meta.now.classes ≤ 2 ^ 16 }
+    ensures { result ≡ unless (spec.class_faults_at meta.now i object.now) (lookups.class_of meta.now object.now) }
+{
+    match class_named(meta, &object.class) {
+        None => Err(fault(
+            GraphPlace::ObjectClass { object: i },
+            GraphFaultKind::UnknownClass,
+        )),
+        Some(class) if is_abstract(meta, class) => Err(fault(
+            GraphPlace::Object { object: i },
+            GraphFaultKind::Abstract,
+        )),
+        Some(class) => Ok(class),
+    }
+}

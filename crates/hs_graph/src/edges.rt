@@ -1,0 +1,154 @@
+//! The edges that references mean.
+
+ghost use Rattle.std.specs.Prelude.{◌≡◌, ◌≤◌, ◌++◌, ℕ, List, map, length, IfOk, OnOk, option_copied, unwrap_or};
+ghost use Rattle.std.specs.HashMap.{get_by_text};
+ghost use Rattle.std.specs.List.{find};
+ghost use Rattle.hs_graph.specs.Answers.{PassesWith};
+ghost use Rattle.hs_graph.specs.Faults as faults;
+ghost use Rattle.hs_graph.specs.Links as spec;
+ghost use Rattle.hs_graph.specs.Lookups.{classes_of, is_reference_named as named, object_names, place_of};
+ghost use Rattle.hs_graph.specs.Meaning as meaning;
+
+use crate::fault::{GraphFault, GraphFaultKind, GraphPlace, fault};
+use crate::lookups::is_reference_named;
+use crate::numbers::Numbers;
+use crate::raw::{RawObject, RawRef};
+use hs_expr::{Failure, List, Text};
+use hs_types::{ClassNo, Edge, EdgeNo, FeatureNo, Meta, ObjectNo};
+use std::alloc::{AllocError, Global};
+
+/// The most edges.
+const MOST_EDGES: usize = 400_000;
+
+/// An edge before it is numbered.
+#[derive(Clone, Copy, PartialEq, Eq, Debug)]
+pub struct Link {
+    pub source: ObjectNo,
+    pub reference: FeatureNo,
+    pub target: ObjectNo,
+}
+
+/// The edges of all objects, object by object, unless there are too many.
+pub fn all_links(
+    alloc: Global,
+    meta: &Meta,
+    numbers: &Numbers,
+    classes: &[ClassNo],
+    objects: &[RawObject],
+) -> Result<List<Link>, Failure<GraphFault>>
+    requires few { length objects.now ≤ 200000 }
+    requires resolved { classes.now ≡ classes_of meta.now objects.now }
+    requires numbered { (name : List ℕ) → get_by_text numbers.now name ≡ place_of (object_names objects.now) name }
+    ensures gives { PassesWith (λ links. links ≡ spec.all_links meta.now objects.now) result (faults.many_edges meta.now objects.now) }
+    ensures few { IfOk result (λ links. length links ≤ 400000) }
+{
+    let mut links = List::new(alloc);
+    for (i, object) in objects.iter().enumerate() {
+        add_links(
+            meta,
+            numbers,
+            i as u32,
+            classes[i],
+            object.refs.as_slice(),
+            &mut links,
+        )?;
+        if links.len() > MOST_EDGES {
+            return Err(Failure::Fault(fault(GraphPlace::Graph, GraphFaultKind::Limit)));
+        }
+    }
+    Ok(links)
+}
+
+/// Adds the edges of a source, reference by reference in the order of its class.
+fn add_links(
+    meta: &Meta,
+    numbers: &Numbers,
+    source: ObjectNo,
+    class: ClassNo,
+    refs: &[RawRef],
+    links: &mut List<Link>,
+) -> Result<(), AllocError>
+    ensures { (names : List (List ℕ)) → ((name : List ℕ) → get_by_text numbers.now name ≡ place_of names name)
+        → OnOk result (links.new ≡ links.old ++ spec.links_of meta.now names source class refs.now) }
+{
+    for feature in meta.features_of(class) {
+        add_targets(
+            numbers,
+            source,
+            *feature,
+            targets_at(meta, refs, *feature),
+            links,
+        )?;
+    }
+    Ok(())
+}
+
+/// The names of the targets that are written for a feature.
+fn targets_at<'a>(meta: &Meta, refs: &'a [RawRef], feature: FeatureNo) -> &'a [Text]
+    ensures { result.now ≡ spec.targets_at meta.now refs.now feature }
+{
+    match ref_for(meta, refs, feature) {
+        Some(found) => found.targets.as_slice(),
+        None => &[],
+    }
+}
+
+/// What is written for a reference.
+fn ref_for<'a>(meta: &Meta, refs: &'a [RawRef], feature: FeatureNo) -> Option<&'a RawRef>
+    ensures { option_copied result ≡ find (λ written. named meta.now written.name feature) refs.now }
+{
+    refs.iter()
+        .find(|written| is_reference_named(meta, &written.name, feature))
+}
+
+/// Adds an edge for each target of the source at this reference.
+fn add_targets(
+    numbers: &Numbers,
+    source: ObjectNo,
+    reference: FeatureNo,
+    targets: &[Text],
+    links: &mut List<Link>,
+) -> Result<(), AllocError>
+    ensures { (names : List (List ℕ)) → ((name : List ℕ) → get_by_text numbers.now name ≡ place_of names name)
+        → OnOk result (links.new ≡ links.old ++ map (spec.link_of names source reference) targets.now) }
+{
+    for target in targets {
+        links.push(Link {
+            source,
+            reference,
+            target: number_of(numbers, target),
+        })?;
+    }
+    Ok(())
+}
+
+/// The number of the object of this name, or 0 where there is none.
+fn number_of(numbers: &Numbers, name: &Text) -> ObjectNo
+    ensures { result ≡ unwrap_or (get_by_text numbers.now name.now) 0 }
+{
+    numbers.get(name.as_str()).copied().unwrap_or(0)
+}
+
+/// The edges, numbered by their places.
+pub fn numbered_edges(alloc: Global, links: &[Link]) -> Result<List<Edge>, AllocError>
+    requires { length links.now ≤ 400000 }
+    ensures { IfOk result (λ made. made ≡ meaning.edges_from 0 links.now) }
+{
+    let mut made = List::new(alloc);
+    for (i, link) in links.iter().enumerate() {
+        made.push(edge_of(i as u32, link))?;
+    }
+    Ok(made)
+}
+
+/// The edge of this number that a link is.
+fn edge_of(number: EdgeNo, link: &Link) -> Edge
+    ensures { result ≡ record { number = number; source = link.now.source; reference = link.now.reference; target = link.now.target } }
+{
+    Edge {
+        number,
+        source: link.source,
+        reference: link.reference,
+        target: link.target,
+    }
+}

@@ -1,0 +1,47 @@
+//! The objects that written ones mean.
+
+ghost use Rattle.std.specs.Prelude.{◌≡◌, ◌≤◌, length, IfOk};
+ghost use Rattle.hs_graph.specs.Lookups.{classes_of};
+ghost use Rattle.hs_graph.specs.Meaning as spec;
+
+use crate::attrs::slots_of;
+use crate::raw::RawObject;
+use hs_expr::List;
+use hs_types::{ClassNo, Meta, Object, ObjectNo};
+use std::alloc::{AllocError, Global};
+
+/// The objects, numbered by their places.
+pub fn numbered_objects(
+    alloc: Global,
+    meta: &Meta,
+    classes: &[ClassNo],
+    objects: &[RawObject],
+) -> Result<List<Object>, AllocError>
+    requires few { length objects.now ≤ 200000 }
+    requires resolved { classes.now ≡ classes_of meta.now objects.now }
+    ensures { IfOk result (λ made. made ≡ spec.objects_from meta.now 0 objects.now) }
+{
+    let mut made = List::new(alloc);
+    for (i, object) in objects.iter().enumerate() {
+        made.push(object_of(alloc, meta, classes[i], i as u32, object)?)?;
+    }
+    Ok(made)
+}
+
+/// The object of this number and class.
+fn object_of(
+    alloc: Global,
+    meta: &Meta,
+    class: ClassNo,
+    number: ObjectNo,
+    object: &RawObject,
+) -> Result<Object, AllocError>
+    ensures { IfOk result (λ made. made ≡ record { number = number; name = object.now.name; class = class; slots = spec.slots_of meta.now class object.now.attrs }) }
+{
+    Ok(Object {
+        number,
+        name: object.name.clone()?,
+        class,
+        slots: slots_of(alloc, meta, class, object.attrs.as_slice())?,
+    })
+}

@@ -1,0 +1,425 @@
+use crate::{GraphFault, GraphFaultKind, GraphPlace, RawAttr, RawObject, RawRef, RawValue, build};
+use hs_expr::{Failure, List, Text, Value};
+use hs_types::{Class, ClassNo, DataType, Feature, FeatureKind, FeatureNo, Graph, Meta, Metamodel};
+use std::alloc::{AllocError, Global};
+use std::test::Fail;
+
+fn class(
+    alloc: Global,
+    name: &str,
+    is_abstract: bool,
+    supers: &[ClassNo],
+    features: &[FeatureNo],
+) -> Result<Class, AllocError> {
+    let mut made = Class {
+        name: Text::from_str(alloc, name)?,
+        is_abstract,
+        supers: List::new(alloc),
+        features: List::new(alloc),
+    };
+    for number in supers {
+        made.supers.push(*number)?;
+    }
+    for number in features {
+        made.features.push(*number)?;
+    }
+    Ok(made)
+}
+
+fn attribute(
+    alloc: Global,
+    owner: ClassNo,
+    name: &str,
+    data_type: DataType,
+    default: Value,
+) -> Result<Feature, AllocError> {
+    Ok(Feature {
+        owner,
+        name: Text::from_str(alloc, name)?,
+        kind: FeatureKind::Attribute { data_type, default },
+    })
+}
+
+fn reference(
+    alloc: Global,
+    owner: ClassNo,
+    name: &str,
+    target: ClassNo,
+) -> Result<Feature, AllocError> {
+    Ok(Feature {
+        owner,
+        name: Text::from_str(alloc, name)?,
+        kind: FeatureKind::Reference {
+            target,
+            containment: false,
+            lower: 0,
+            upper: None,
+        },
+    })
+}
+
+/// `Client` and `Account` below the abstract `Named`. A client has `name`, `link` to anything and
+/// `accounts`; an account has `name`, `link`, `balance`, `total`, `open` and `owner`.
+fn bank(alloc: Global) -> Result<Meta, AllocError> {
+    let mut classes = List::new(alloc);
+    classes.push(class(alloc, "Named", true, &[], &[0, 1])?)?;
+    classes.push(class(alloc, "Client", false, &[0], &[0, 1, 2])?)?;
+    classes.push(class(alloc, "Account", false, &[0], &[0, 1, 3, 4, 5, 6])?)?;
+    let mut features = List::new(alloc);
+    let text = Value::Text(Text::from_str(alloc, "?")?);
+    features.push(attribute(alloc, 0, "name", DataType::EString, text)?)?;
+    features.push(reference(alloc, 0, "link", 0)?)?;
+    features.push(reference(alloc, 1, "accounts", 2)?)?;
+    features.push(attribute(alloc, 2, "balance", DataType::EInt, Value::Int(5))?)?;
+    features.push(attribute(alloc, 2, "total", DataType::ELong, Value::Int(0))?)?;
+    features.push(attribute(alloc, 2, "open", DataType::EBoolean, Value::Bool(false))?)?;
+    features.push(reference(alloc, 2, "owner", 1)?)?;
+    let plain = Metamodel {
+        format: 1,
+        classes,
+        features,
+    };
+    match Meta::new(alloc, plain)? {
+        Some(meta) => Ok(meta),
+        None => Err(AllocError),
+    }
+}
+
+/// The value that is written so: `~` is none.
+fn value(alloc: Global, word: &str) -> Result<RawValue, AllocError> {
+    if word == "~" {
+        return Ok(RawValue::NoValue);
+    }
+    if word == "true" {
+        return Ok(RawValue::Given(Value::Bool(true)));
+    }
+    match word.parse::<i64>() {
+        Ok(number) => Ok(RawValue::Given(Value::Int(number))),
+        Err(_) => Ok(RawValue::Given(Value::Text(Text::from_str(alloc, word)?))),
+    }
+}
+
+fn written_ref(alloc: Global, name: &str, targets: &str) -> Result<RawRef, AllocError> {
+    let mut made = RawRef {
+        name: Text::from_str(alloc, name)?,
+        targets: List::new(alloc),
+    };
+    for target in targets.split(',') {
+        made.targets.push(Text::from_str(alloc, target)?)?;
+    }
+    Ok(made)
+}
+
+fn named(alloc: Global, name: &str, class: &str) -> Result<RawObject, AllocError> {
+    Ok(RawObject {
+        name: Text::from_str(alloc, name)?,
+        class: Text::from_str(alloc, class)?,
+        attrs: List::new(alloc),
+        refs: List::new(alloc),
+    })
+}
+
+/// The object that is written `name:class attribute=value reference>target,target`.
+fn object(alloc: Global, text: &str) -> Result<RawObject, AllocError> {
+    let (head, rest) = text.split_once(' ').unwrap_or((text, ""));
+    let (name, class) = head.split_once(':').unwrap_or((head, ""));
+    let mut made = named(alloc, name, class)?;
+    for word in rest.split(' ') {
+        if let Some((name, written)) = word.split_once('=') {
+            made.attrs.push(RawAttr {
+                name: Text::from_str(alloc, name)?,
+                value: value(alloc, written)?,
+            })?;
+        }
+        if let Some((name, targets)) = word.split_once('>') {
+            made.refs.push(written_ref(alloc, name, targets)?)?;
+        }
+    }
+    Ok(made)
+}
+
+/// The objects that are written one behind another.
+fn objects(alloc: Global, text: &str) -> Result<List<RawObject>, AllocError> {
+    let mut made = List::new(alloc);
+    for word in text.split(';') {
+        made.push(object(alloc, word)?)?;
+    }
+    Ok(made)
+}
+
+fn answer(alloc: Global, objects: &List<RawObject>) -> Result<Graph, Failure<GraphFault>> {
+    let meta = bank(alloc)?;
+    if meta.plain().classes.len() > 256 {
+        return Err(Failure::NoMemory);
+    }
+    build(alloc, &meta, objects.as_slice())
+}
+
+fn answer_to(alloc: Global, text: &str) -> Result<Graph, Failure<GraphFault>> {
+    answer(alloc, &objects(alloc, text)?)
+}
+
+fn is_told(
+    answer: Result<Graph, Failure<GraphFault>>,
+    place: GraphPlace,
+    kind: GraphFaultKind,
+) -> bool {
+    match answer {
+        Err(Failure::Fault(fault)) => fault == GraphFault { place, kind },
+        _ => false,
+    }
+}
+
+#[test]
+fn right_objects_have_no_fault(rt: HostRuntime) {
+    for text in [
+        "a:Client",
+        "a:Client;b:Account",
+        "a:Client name=Ann link>a accounts>b,b;b:Account link>a,b owner>a",
+        "#09:Client;#3000000000:Client",
+        "a:Account balance=2147483647;b:Account balance=-2147483648",
+        "a:Account total=9223372036854775807;b:Account total=-9223372036854775808",
+        "a:Account open=true",
+    ] {
+        assert!(rt; answer_to(rt.alloc(), text).is_ok(), "{text}");
+    }
+}
+
+#[test]
+fn names_and_classes_are_told(rt: HostRuntime) {
+    use GraphFaultKind::{Abstract, Name, Twice, UnknownClass};
+    let cases = [
+        (":Client", GraphPlace::ObjectName { object: 0 }, Name),
+        (
+            "a:Client;#3000000001:Client",
+            GraphPlace::ObjectName { object: 1 },
+            Name,
+        ),
+        (
+            "#99999999999999999999999999:Client",
+            GraphPlace::ObjectName { object: 0 },
+            Name,
+        ),
+        (
+            "a:Client;b:Client;a:Account",
+            GraphPlace::ObjectName { object: 2 },
+            Twice,
+        ),
+        (
+            "a:Client;b:client",
+            GraphPlace::ObjectClass { object: 1 },
+            UnknownClass,
+        ),
+        ("a:Named", GraphPlace::Object { object: 0 }, Abstract),
+    ];
+    for (text, place, kind) in cases {
+        assert!(rt; is_told(answer_to(rt.alloc(), text), place, kind), "{text}");
+    }
+}
+
+#[test]
+fn attributes_are_told(rt: HostRuntime) {
+    use GraphFaultKind::{BadValue, UnknownAttribute};
+    let cases = [
+        ("a:Client balance=1", 0, 0, UnknownAttribute),
+        ("a:Client;b:Account link=1", 1, 0, UnknownAttribute),
+        ("a:Account balance=2147483648", 0, 0, BadValue),
+        ("a:Account balance=-2147483649", 0, 0, BadValue),
+        ("a:Account balance=1 name=2", 0, 1, BadValue),
+        ("a:Account balance=true", 0, 0, BadValue),
+        ("a:Account open=1", 0, 0, BadValue),
+        ("a:Account total=x", 0, 0, BadValue),
+        ("a:Account total=~", 0, 0, BadValue),
+    ];
+    for (text, object, number, kind) in cases {
+        let place = GraphPlace::Attr { object, number };
+        assert!(rt; is_told(answer_to(rt.alloc(), text), place, kind), "{text}");
+    }
+}
+
+#[test]
+fn references_are_told(rt: HostRuntime) {
+    use GraphFaultKind::{BadTarget, UnknownReference, UnknownTarget};
+    let target = |object, number, place| GraphPlace::Target {
+        object,
+        number,
+        place,
+    };
+    let reference = |object, number| GraphPlace::Ref { object, number };
+    let cases = [
+        ("a:Client owner>a", reference(0, 0), UnknownReference),
+        ("a:Client link>a name>a", reference(0, 1), UnknownReference),
+        ("a:Client link>a,b", target(0, 0, 1), UnknownTarget),
+        ("a:Client accounts>a", target(0, 0, 0), BadTarget),
+        (
+            "a:Client;b:Account link>a,b owner>a,b",
+            target(1, 1, 1),
+            BadTarget,
+        ),
+    ];
+    for (text, place, kind) in cases {
+        assert!(rt; is_told(answer_to(rt.alloc(), text), place, kind), "{text}");
+    }
+}
+
+#[test]
+fn checks_come_in_their_order(rt: HostRuntime) {
+    use GraphFaultKind::{Abstract, Name, Twice, UnknownAttribute, UnknownClass, UnknownReference};
+    let cases = [
+        ("a:X;a:Client", GraphPlace::ObjectName { object: 1 }, Twice),
+        (
+            "a:Client;a:Client;:Client",
+            GraphPlace::ObjectName { object: 1 },
+            Twice,
+        ),
+        (
+            "a:Named;:Client",
+            GraphPlace::ObjectName { object: 1 },
+            Name,
+        ),
+        (
+            "a:Client x=1;b:X",
+            GraphPlace::ObjectClass { object: 1 },
+            UnknownClass,
+        ),
+        ("a:Named;b:X", GraphPlace::Object { object: 0 }, Abstract),
+        (
+            "a:Client x>a;b:Client x=1",
+            GraphPlace::Attr {
+                object: 1,
+                number: 0,
+            },
+            UnknownAttribute,
+        ),
+        (
+            "a:Client x>a link>b",
+            GraphPlace::Ref {
+                object: 0,
+                number: 0,
+            },
+            UnknownReference,
+        ),
+    ];
+    for (text, place, kind) in cases {
+        assert!(rt; is_told(answer_to(rt.alloc(), text), place, kind), "{text}");
+    }
+}
+
+/// As many bytes of `x`.
+fn long(alloc: Global, bytes: u32) -> Result<Text, AllocError> {
+    let mut text = String::new(alloc);
+    for _ in 0..bytes {
+        text.push('x')?;
+    }
+    Ok(Text::from_string(text))
+}
+
+fn name_of(alloc: Global, bytes: u32) -> Result<Graph, Failure<GraphFault>> {
+    let mut objects = List::new(alloc);
+    let mut made = named(alloc, "", "Client")?;
+    made.name = long(alloc, bytes)?;
+    objects.push(made)?;
+    answer(alloc, &objects)
+}
+
+fn text_of(alloc: Global, bytes: u32) -> Result<Graph, Failure<GraphFault>> {
+    let mut objects = List::new(alloc);
+    let mut made = named(alloc, "a", "Client")?;
+    made.attrs.push(RawAttr {
+        name: Text::from_str(alloc, "name")?,
+        value: RawValue::Given(Value::Text(long(alloc, bytes)?)),
+    })?;
+    objects.push(made)?;
+    answer(alloc, &objects)
+}
+
+#[test]
+fn names_and_texts_have_a_greatest_length(rt: HostRuntime) {
+    let alloc = rt.alloc();
+    assert!(rt; name_of(alloc, 1).is_ok());
+    assert!(rt; name_of(alloc, 128).is_ok());
+    let name = GraphPlace::ObjectName { object: 0 };
+    assert!(rt; is_told(name_of(alloc, 129), name, GraphFaultKind::Name));
+    assert!(rt; text_of(alloc, 65_536).is_ok());
+    let value = GraphPlace::Attr {
+        object: 0,
+        number: 0,
+    };
+    assert!(rt; is_told(text_of(alloc, 65_537), value, GraphFaultKind::BadValue));
+}
+
+fn many_objects(alloc: Global, count: u32) -> Result<Graph, Failure<GraphFault>> {
+    let mut objects = List::new(alloc);
+    for i in 0..count {
+        let name = format!(in alloc; "o{i}")?;
+        objects.push(named(alloc, name.as_str(), "Client")?)?;
+    }
+    answer(alloc, &objects)
+}
+
+/// An object with as many edges to itself.
+fn many_edges(alloc: Global, count: u32) -> Result<Graph, Failure<GraphFault>> {
+    let mut made = named(alloc, "a", "Client")?;
+    let mut links = written_ref(alloc, "link", "a")?;
+    for _ in 1..count {
+        links.targets.push(Text::from_str(alloc, "a")?)?;
+    }
+    made.refs.push(links)?;
+    let mut objects = List::new(alloc);
+    objects.push(made)?;
+    answer(alloc, &objects)
+}
+
+#[test]
+fn limits_are_kept(rt: HostRuntime) {
+    let alloc = rt.alloc();
+    let limit = GraphFaultKind::Limit;
+    assert!(rt; many_objects(alloc, 200_000).is_ok());
+    assert!(rt; is_told(many_objects(alloc, 200_001), GraphPlace::Graph, limit));
+    assert!(rt; many_edges(alloc, 400_000).is_ok());
+    assert!(rt; is_told(many_edges(alloc, 400_001), GraphPlace::Graph, limit));
+}
+
+/// The edges of a graph as they are printed: source, reference, target.
+fn edges_text(alloc: Global, graph: &Graph) -> Result<String, AllocError> {
+    let mut text = String::new(alloc);
+    for edge in graph.edges.iter() {
+        let word = format!(in alloc; "{}-{}-{} ", edge.source, edge.reference, edge.target)?;
+        text.push_str(word.as_str())?;
+    }
+    Ok(text)
+}
+
+#[test]
+fn edges_stand_in_order(rt: HostRuntime) -> Result<(), Fail> {
+    let alloc = rt.alloc();
+    let text = "a:Client accounts>#7,#7 link>a;#7:Account link>a owner>a;#09:Client";
+    match answer_to(alloc, text) {
+        Ok(graph) => {
+            let edges = edges_text(alloc, &graph)?;
+            assert!(rt; edges.as_str() == "0-1-0 0-2-1 0-2-1 1-1-0 1-6-0 ");
+            assert!(rt; graph.next_name == 8);
+            assert!(rt; graph.next_object == 3);
+            assert!(rt; graph.next_edge == 5);
+        }
+        Err(_) => assert!(rt; false),
+    }
+    Ok(())
+}
+
+#[test]
+fn slots_have_written_values_and_defaults(rt: HostRuntime) -> Result<(), Fail> {
+    let alloc = rt.alloc();
+    match answer_to(alloc, "a:Account balance=7 total=-3") {
+        Ok(graph) => {
+            let text = Value::Text(Text::from_str(alloc, "?")?);
+            assert!(rt; graph.slot(0, 0) == Some(&text));
+            assert!(rt; graph.slot(0, 3) == Some(&Value::Int(7)));
+            assert!(rt; graph.slot(0, 4) == Some(&Value::Int(-3)));
+            assert!(rt; graph.slot(0, 5) == Some(&Value::Bool(false)));
+            assert!(rt; graph.slot(0, 1).is_none());
+        }
+        Err(_) => assert!(rt; false),
+    }
+    Ok(())
+}
