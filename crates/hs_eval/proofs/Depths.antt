@@ -1,5 +1,5 @@
 -- What is held of an expression is held of it operator by operator.
-use Rattle.std.proofs.Common.{ℕ, ◌+◌, ◌<◌, ◌≡◌, max, Bool, true, false, if◌then◌else◌, nat_le, Some, None, Ok, refl, sym, ap, ◌∙◌, arith}
+use Rattle.std.proofs.Common.{ℕ, ◌+◌, ◌<◌, ◌≡◌, max, Bool, true, false, if◌then◌else◌, nat_le, Some, None, refl, sym, ap, ◌∙◌, arith}
 use Rattle.std.proofs.lemmas.Bool.{leb-false, lt-leb}
 use Rattle.hs_expr.specs.declared.expr.Expr.{Expr, roll-Expr, map-Expr, fold-roll-Expr}
 use Rattle.hs_expr.specs.declared.expr.Expr.TheOpen.{Expr-F}
@@ -9,7 +9,6 @@ use Rattle.hs_expr.specs.declared.expr.SlotRead.{SlotRead}
 use Rattle.hs_expr.specs.declared.value.Kind.{Kind}
 use Rattle.hs_expr.specs.declared.value.Value.{Value}
 use Rattle.hs_expr.specs.Evaluation.{nesting, nesting_of_level}
-use Rattle.hs_eval.specs.declared.shallow.Shallow.{Shallow}
 use Rattle.hs_eval.specs.Keeping.{kept}
 use Rattle.hs_eval.specs.Stepping.{held, raised, raised_both, released, within}
 

@@ -1,5 +1,5 @@
 -- What is kept is what was checked.
-use Rattle.std.proofs.Common.{ℕ, ◌≡◌, ◌≤◌, Bool, true, false, if◌then◌else◌, nat_le, Option, Some, None, Result, Ok, Err, refl, sym, ap, ap₂, subst, ◌∙◌}
+use Rattle.std.proofs.Common.{◌≡◌, ◌≤◌, Bool, true, false, if◌then◌else◌, nat_le, Some, None, Result, Ok, Err, refl, sym, ap, ap₂, subst, ◌∙◌}
 use Rattle.std.proofs.lemmas.Bool.{leb-true}
 use Rattle.hs_expr.specs.declared.Expr.{Expr}
 use Rattle.hs_expr.specs.declared.Kind.{Kind}
@@ -26,10 +26,11 @@ kept-checked (Err fault) told e h is = cc
 kept-checked (Ok x) told e h is = go (nat_le (nesting x.0) 32) refl (ap (λ (c : Checked). c.expr) same ∙ is) where
   same : kept x ≡ told
   same = same-told (kept x) told h
+
   go : (b : Bool) → nat_le (nesting x.0) 32 ≡ b → (kept x).expr ≡ Some e → IsOf (Ok x) told e
-  go true t k = 
-    let it : x.0 ≡ e = same-expr x.0 e (sym (ap (λ (b : Bool). if b then Some x.0 else None) t) ∙ k) in
-    (ap₂ (λ (a : Expr) (k : Kind). Ok (a, k)) it (ap (λ (c : Checked). c.kind) same), subst (λ (a : Expr). nesting a ≤ 32) it (leb-true (nesting x.0) 32 t))
+  go true t k =
+      let it : x.0 ≡ e = same-expr x.0 e (sym (ap (λ (b : Bool). if b then Some x.0 else None) t) ∙ k) in
+      (ap₂ (λ (a : Expr) (k : Kind). Ok (a, k)) it (ap (λ (c : Checked). c.kind) same), subst (λ (a : Expr). nesting a ≤ 32) it (leb-true (nesting x.0) 32 t))
   go false t k = absurd (none (sym (ap (λ (b : Bool). if b then Some x.0 else None) t) ∙ k)) where
     none : None ≡ Some e → ⊥
     none h = cc

@@ -16,7 +16,6 @@ use Rattle.hs_expr.specs.declared.Value.TheVariants as value
 use Rattle.hs_expr.specs.Evaluation.{kind_joined, kind_negated, kind_opposite, nesting}
 use Rattle.hs_expr.specs.Steps.{◌>>=◌, demand, needed, Fails}
 use Rattle.hs_text.specs.Trees.{Tree, Leaf, Not, Minus, Binary, planted, grown, alone, tree_of}
-use Rattle.hs_eval.specs.declared.checked.Checked.{Checked}
 use Rattle.hs_eval.specs.declared.fault.ExprFault.{ExprFault}
 use Rattle.hs_eval.specs.declared.fault.Wrong.TheVariants.{NotRead}
 use Rattle.hs_eval.specs.declared.operand.Operand.{Operand}

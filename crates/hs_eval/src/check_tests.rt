@@ -106,10 +106,12 @@ fn is_resolved(alloc: Global, expr: &NameExpr) -> Result<bool, AllocError>
         attribute: 7,
     };
     Ok(match check(alloc, expr, &scope) {
-        Ok(Checked {
-            kind: Kind::Bool,
-            expr: Some(Expr::Binary(Sign::Equal, left, right)),
-        }) => match (left.get(), right.get()) {
+        Ok(
+            Checked {
+                kind: Kind::Bool,
+                expr: Some(Expr::Binary(Sign::Equal, left, right)),
+            },
+        ) => match (left.get(), right.get()) {
             (Expr::Slot(slot), Expr::Param(number)) => *slot == read && *number == 0,
             _ => false,
         },
@@ -294,7 +296,16 @@ fn a_fault_at_either_end_of_a_million_operators_is_told(rt: HostRuntime) -> Resu
     let alloc = rt.alloc();
     assert!(rt; is_told(alloc, 1_000_000, "", "z", " + 1", "UnknownName at 1")?);
     assert!(rt; is_told(alloc, 1_000_000, "1 + ", "z", "", "UnknownName at 4000001")?);
-    assert!(rt; is_told(alloc, 1_000_000, "1 + (", "z", ")", "UnknownName at 5000001")?);
+    assert!(rt;
+        is_told(
+            alloc,
+            1_000_000,
+            "1 + (",
+            "z",
+            ")",
+            "UnknownName at 5000001"
+        )?
+    );
     assert!(rt; is_told(alloc, 1_000_000, "", "p", " + 1", "BadKind at 3")?);
     Ok(())
 }

@@ -10,11 +10,7 @@ use crate::shallow::{joined, negated, opposed};
 use hs_expr::{Failure, Sign, Span, needed};
 use std::alloc::Global;
 
-pub fn negation(
-    alloc: Global,
-    span: Span,
-    operand: Operand,
-) -> Result<Operand, Failure<ExprFault>>
+pub fn negation(alloc: Global, span: Span, operand: Operand) -> Result<Operand, Failure<ExprFault>>
     ensures { Gives result (negation_held span operand) }
 {
     let kind = needed(kind_negated(operand.kind), wrong_at(span, Wrong::BadKind))?;
