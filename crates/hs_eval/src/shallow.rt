@@ -7,10 +7,10 @@ use hs_expr::{Expr, Sign};
 use sqlite_items::Boxed;
 use std::alloc::{AllocError, Global};
 
-/// How deep an expression may nest that is built. Dropping one takes a call for each level.
+/// An expression that nests deeper isn't built: dropping one takes a call for each level.
 const MOST: u32 = 32;
 
-/// An expression that nests so deep.
+/// An expression, with how deep it nests.
 #[derive(Debug, Drop)]
 pub struct Shallow {
     pub expr: Expr,
