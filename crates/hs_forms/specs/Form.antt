@@ -54,6 +54,10 @@ integer d = there (option_and_then as_i64 (as_number d)) []
 abbrev pub truth : Data → Read Bool
 truth d = there (as_bool d) []
 
+-- A text at a key that was found there.
+abbrev pub text_at : List ℕ → Data → Read (List ℕ)
+text_at key d = within (Key key) (text d)
+
 -- What is read of each item in turn; the first one's place is i.
 abbrev pub each_from : {X : Type 0} → (Data → Read X) → ℕ → List Data → Read (List X)
 each_from read i [] = Ok []

@@ -154,7 +154,7 @@ pub fn integer_at(
 
 /// The text at a key that has to be there.
 pub fn text_at(alloc: Global, key: &str, value: &Value) -> Result<Text, Failure<Path>>
-    ensures { Gives result (spec.within (step.Key key.now) (spec.text (view value.now))) }
+    ensures { Gives result (spec.text_at key.now (view value.now)) }
 {
     at_key(alloc, key, text_of(alloc, value))
 }

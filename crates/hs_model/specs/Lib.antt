@@ -1,2 +1,3 @@
 pub mod MetaForm
 pub mod Meta
+pub mod GraphForm

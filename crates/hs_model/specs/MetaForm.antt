@@ -5,17 +5,13 @@ use Rattle.serde_json.specs.Data.{Data, null, boolean, number, string, array, ob
 use Rattle.hs_expr.specs.declared.value.Value.TheVariants as value
 use Rattle.hs_expr.specs.Steps.{◌>>=◌}
 use Rattle.hs_forms.specs.declared.path.Step.TheVariants.{Key}
-use Rattle.hs_forms.specs.Form.{Read, at_or, integer, list_of, needed, only_known, text, truth, within}
+use Rattle.hs_forms.specs.Form.{Read, at_or, integer, list_of, needed, only_known, text, text_at, truth, within}
 use Rattle.hs_meta.specs.declared.raw.RawAttribute.{RawAttribute}
 use Rattle.hs_meta.specs.declared.raw.RawClass.{RawClass}
 use Rattle.hs_meta.specs.declared.raw.RawDefault.{RawDefault}
 use Rattle.hs_meta.specs.declared.raw.RawDefault.TheVariants.{LeftOut, Given, NoValue}
 use Rattle.hs_meta.specs.declared.raw.RawMeta.{RawMeta}
 use Rattle.hs_meta.specs.declared.raw.RawReference.{RawReference}
-
--- A text at a key that was found there.
-abbrev pub text_at : List ℕ → Data → Read (List ℕ)
-text_at key d = within (Key key) (text d)
 
 -- What is given as a default: a truth value, an integer of 64 bits or a text; a list, an object and null are no value.
 abbrev pub default_of : Data → Read RawDefault

@@ -5,9 +5,11 @@
 #![tactic(auto)]
 
 mod fault;
+mod graph_form;
 mod meta;
 mod meta_form;
 
 pub use fault::{Fault, Wrong};
+pub use graph_form::raw_objects;
 pub use meta::{MetaFailure, read_meta};
 pub use meta_form::raw_meta;
