@@ -1,3 +1,4 @@
 pub mod MetaForm
 pub mod Meta
 pub mod GraphForm
+pub mod Graph

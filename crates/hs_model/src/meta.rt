@@ -10,9 +10,10 @@ ghost use Rattle.hs_meta.specs.Meaning.{meant};
 ghost use Rattle.hs_model.specs.Meta as spec;
 
 use crate::meta_form::raw_meta;
+use crate::paths::{keyed, named, placed};
 use crate::{Fault, Wrong};
-use hs_expr::{Failure, Text};
-use hs_forms::{Path, Step};
+use hs_expr::Failure;
+use hs_forms::Path;
 use hs_meta::{ModelFault, ModelFaultKind, ModelPlace, RawMeta, build};
 use hs_types::Meta;
 use serde_json::Value;
@@ -64,7 +65,7 @@ fn path_of(alloc: Global, place: ModelPlace) -> Result<Path, AllocError>
     ensures { IfOk result (λ path. path ≡ spec.path_of place) }
 {
     match place {
-        ModelPlace::Classes => key(alloc, "classes", Path::new(alloc)),
+        ModelPlace::Classes => named(alloc, "classes"),
         ModelPlace::Class { class } => in_class(alloc, class, Path::new(alloc)),
         ModelPlace::ClassName { class } => in_class(alloc, class, named(alloc, "name")?),
         ModelPlace::Super { class, number } => {
@@ -91,22 +92,10 @@ fn path_of(alloc: Global, place: ModelPlace) -> Result<Path, AllocError>
     }
 }
 
-fn key(alloc: Global, key: &str, inner: Path) -> Result<Path, AllocError>
-    ensures { IfOk result (λ path. path ≡ step.Key key.now ∷ inner) }
-{
-    inner.within(Step::Key(Text::from_str(alloc, key)?))
-}
-
-fn named(alloc: Global, name: &str) -> Result<Path, AllocError>
-    ensures { IfOk result (λ path. path ≡ step.Key name.now ∷ []) }
-{
-    key(alloc, name, Path::new(alloc))
-}
-
 fn in_class(alloc: Global, class: usize, inner: Path) -> Result<Path, AllocError>
     ensures { IfOk result (λ path. path ≡ spec.in_class class inner) }
 {
-    key(alloc, "classes", inner.within(Step::Place(class))?)
+    keyed(alloc, "classes", placed(class, inner)?)
 }
 
 fn in_part(
@@ -118,6 +107,6 @@ fn in_part(
 ) -> Result<Path, AllocError>
     ensures { IfOk result (λ path. path ≡ spec.in_class class (step.Key part.now ∷ step.Place number ∷ inner)) }
 {
-    let inner = key(alloc, part, inner.within(Step::Place(number))?)?;
+    let inner = keyed(alloc, part, placed(number, inner)?)?;
     in_class(alloc, class, inner)
 }
