@@ -9,6 +9,8 @@
 mod form;
 mod path;
 mod reading;
+#[cfg(test)]
+mod tests;
 
 pub use form::{at_key, integer_of, needed, only_known, text_of, truth_of};
 pub use path::{Path, Step};

@@ -1,4 +1,6 @@
-ghost use Rattle.std.specs.Prelude.{◌≡◌, [], ◌∷◌, IfOk};
+ghost use Rattle.std.specs.Prelude.{◌≡◌, ◌++◌, [], ◌∷◌, reverse, string_bytes, IfOk, OnOk};
+ghost use Rattle.std.specs.List.{flat_map};
+ghost use Rattle.hs_forms.specs.PathText as spec;
 
 use hs_expr::{List, Text};
 use std::alloc::{AllocError, Global};
@@ -46,5 +48,38 @@ impl Path {
         let Path { mut reversed } = self;
         reversed.push(step)?;
         Ok(Path { reversed })
+    }
+
+    /// The steps, each behind a slash; `/` alone for the whole. Keys are written as they are.
+    pub fn text(&self, alloc: Global) -> Result<Text, AllocError>
+        ensures { IfOk result (λ text. text ≡ spec.path_text self.now) }
+    {
+        if self.reversed.is_empty() {
+            return Text::from_str(alloc, "/");
+        }
+        let text = steps_text(alloc, self.reversed.as_slice())?;
+        Ok(Text::from_string(text))
+    }
+}
+
+/// The steps from the last one on, each behind a slash.
+#[tactic(auto, using(crate::proofs::PathText::none_left))]
+fn steps_text(alloc: Global, reversed: &[Step]) -> Result<String, AllocError>
+    ensures { IfOk result (λ text. string_bytes text ≡ flat_map spec.step_text (reverse reversed.now)) }
+{
+    let mut text = String::new(alloc);
+    for i in 0..reversed.len() {
+        add_step(&mut text, &reversed[reversed.len() - 1 - i])?;
+    }
+    Ok(text)
+}
+
+fn add_step(text: &mut String, step: &Step) -> Result<(), AllocError>
+    ensures { OnOk result (string_bytes text.new ≡ string_bytes text.old ++ spec.step_text step.now) }
+{
+    text.push('/')?;
+    match step {
+        Step::Key(key) => text.push_str(key.as_str()),
+        Step::Place(place) => write!(text, "{place}"),
     }
 }
