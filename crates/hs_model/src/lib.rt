@@ -11,9 +11,13 @@ mod graph_form;
 mod meta;
 mod meta_form;
 mod paths;
+#[cfg(test)]
+mod read_tests;
+mod words;
 
 pub use fault::{Fault, Wrong};
 pub use graph::{GraphFailure, read_graph};
 pub use graph_form::raw_objects;
 pub use meta::{MetaFailure, read_meta};
 pub use meta_form::raw_meta;
+pub use words::Worded;
