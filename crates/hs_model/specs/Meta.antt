@@ -42,15 +42,15 @@ path_of (place.Reference class number) = in_part class (codes "references") numb
 path_of (place.ReferenceName class number) = in_part class (codes "references") number (Key (codes "name") ∷ [])
 path_of (place.ReferenceTarget class number) = in_part class (codes "references") number (Key (codes "target") ∷ [])
 
--- A fault at its path.
-abbrev pub at_path : ModelPlace → ModelFaultKind → Fault ModelFaultKind
-at_path place kind = record { path = path_of place; wrong = Meaning kind }
+-- A fault at its path. Want of memory is none of the faults of a metamodel.
+abbrev pub at_path : ModelFault → Fault ModelFaultKind
+at_path (model.Fault place kind) = record { path = path_of place; wrong = Meaning kind }
+at_path model.NoMemory = record { path = []; wrong = Form }
 
 -- What is meant where there are no faults, or the first of them.
 abbrev pub judged : {X : Type 0} → List ModelFault → X → Result X (Fault ModelFaultKind)
 judged [] x = Ok x
-judged (model.Fault place kind ∷ faults) x = Err (at_path place kind)
-judged (model.NoMemory ∷ faults) x = Ok x
+judged (fault ∷ faults) x = Err (at_path fault)
 
 -- The metamodel that a value is: of its form, and then of its meaning.
 unfoldable pub meta_at : Data → Result Metamodel (Fault ModelFaultKind)

@@ -1,6 +1,6 @@
 //! Metamodels, read whole.
 
-ghost use Rattle.std.specs.Prelude.{◌≡◌, ◌∷◌, [], IfOk};
+ghost use Rattle.std.specs.Prelude.{◌≡◌, ◌≤◌, ◌∷◌, [], length, IfOk};
 ghost use Rattle.serde_json.specs.View.{view};
 ghost use Rattle.hs_expr.specs.Steps.{Gives};
 ghost use Rattle.hs_forms.specs.declared.path.Step.TheVariants as step;
@@ -24,9 +24,10 @@ pub type MetaFailure = Failure<Fault<ModelFaultKind>>;
 
 /// The metamodel that the value is; else its first fault: those of its form come first, part by part,
 /// and then those of its meaning.
-#[tactic(auto, unfolding(crate::specs::Meta::meta_at))]
+#[tactic(auto, using(crate::proofs::Few::meant_few), unfolding(crate::specs::Meta::meta_at))]
 pub fn read_meta(alloc: Global, value: &Value) -> Result<Meta, MetaFailure>
-    ensures { Gives result (spec.meta_at (view value.now)) }
+    ensures meta { Gives result (spec.meta_at (view value.now)) }
+    ensures few { IfOk result (λ meta. length meta.classes ≤ 256) }
 {
     let raw = formed(raw_meta(alloc, value))?;
     meta_of(alloc, raw)
@@ -47,8 +48,10 @@ pub fn formed<T: Drop, K>(read: Result<T, Failure<Path>>) -> Result<T, Failure<F
 }
 
 /// The metamodel of what is written.
+#[tactic(auto, using(crate::proofs::Few::meant_few))]
 fn meta_of(alloc: Global, raw: RawMeta) -> Result<Meta, MetaFailure>
-    ensures { Gives result (spec.judged (faults raw.classes) (meant raw)) }
+    ensures meta { Gives result (spec.judged (faults raw.classes) (meant raw)) }
+    ensures few { IfOk result (λ meta. length meta.classes ≤ 256) }
 {
     match build(alloc, raw) {
         Ok(meta) => Ok(meta),
