@@ -12,3 +12,4 @@ pub mod Items
 pub mod MeantMeta
 pub mod MeantFeatures
 pub mod IsMeta
+pub mod Repeats

@@ -2,7 +2,9 @@
 //! means where it has none.
 #![tactic(auto)]
 
-ghost use Rattle.std.specs.Prelude.{◌≡◌};
+ghost use Rattle.std.specs.Prelude.{IfOk};
+ghost use Rattle.hs_types.specs.Limits.{IsSmallMeta};
+ghost use Rattle.hs_types.specs.Metamodel.{IsMeta};
 ghost use Rattle.hs_meta.specs.Answers.{Builds, Tells};
 ghost use Rattle.hs_meta.specs.Faults as spec;
 ghost use Rattle.hs_meta.specs.Meaning.{meant};
@@ -33,7 +35,9 @@ pub use raw::{RawAttribute, RawClass, RawDefault, RawMeta, RawReference};
 /// The metamodel of what is written, where that is free of faults, and else the first fault of the
 /// ten checks, each over the classes in order.
 pub fn build(alloc: Global, raw: RawMeta) -> Result<Meta, ModelFault>
-    ensures { Builds result (spec.faults raw.classes) (meant raw) }
+    ensures built { Builds result (spec.faults raw.classes) (meant raw) }
+    ensures whole { IfOk result IsMeta }
+    ensures small { IfOk result IsSmallMeta }
 {
     let supers = checking::checked(alloc, raw.classes.as_slice())?;
     Ok(building::built(alloc, raw, &supers)?)
