@@ -61,7 +61,7 @@ owned_places all n k zero (class ∷ classes) =
     let test : Feature → Bool = λ feature. eqb feature.owner (k + 0) in
     let these : places_from n test own ≡ range_with_len n (length own) = items.places-every n test own (All-owned all (λ feature. test feature ≡ true) k class (λ feature same. eq-eqb feature.owner (k + 0) (omega arith))) in
     let none : places_from (n + length own) test later ≡ [] =
-        items.places-none (n + length own) test later (owned_later all (k + 1) classes (λ feature. test feature ≡ false) (λ feature from below. ne_eqb feature.owner (k + 0) (λ same. absurd (omega arith)))) in
+    items.places-none (n + length own) test later (owned_later all (k + 1) classes (λ feature. test feature ≡ false) (λ feature from below. ne_eqb feature.owner (k + 0) (λ same. absurd (omega arith)))) in
     items.places-append n test own later ∙ ap (λ ks. ks ++ places_from (n + length own) test later) these ∙ ap (λ ks. range_with_len n (length own) ++ ks) none
     ∙ append-nil (range_with_len n (length own)) ∙ ap (range_with_len n) (own_features_long all k class)
 owned_places all n k (suc j) (class ∷ classes) =

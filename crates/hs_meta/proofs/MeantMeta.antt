@@ -96,9 +96,9 @@ has_super raw c d h =
 pub conforms_below : (raw : RawMeta) (c d : ℕ) → Conforms (meant raw) c d → (c ≡ d) ⊎ IsBelow (supers_of raw.classes) c d
 conforms_below raw c d (itself _) = inl refl
 conforms_below raw c e (above _ d _ is rest) = elim (conforms_below raw d e rest) [
-    | inl same ↦ inr (subst (λ k. IsBelow (supers_of raw.classes) c k) same (direct c d (has_super raw c d is)))
-    | inr below ↦ inr (by_way_of c d e (has_super raw c d is) below)
-  ]
+  | inl same ↦ inr (subst (λ k. IsBelow (supers_of raw.classes) c k) same (direct c d (has_super raw c d is)))
+  | inr below ↦ inr (by_way_of c d e (has_super raw c d is) below)
+]
 
 -- What is below has supertypes, so it is a class.
 below_low : (supers : List (List ℕ)) (c d : ℕ) → IsBelow supers c d → c < length supers
@@ -114,6 +114,6 @@ never_itself raw s c below = both_ways (is_below (supers_of raw.classes) c c) (n
 
 pub without_cycle : (raw : RawMeta) → AreSound raw.classes → (c d : ℕ) → HasSuper (meant raw) c d → Conforms (meant raw) d c → ⊥
 without_cycle raw s c d is conforms = never_itself raw s c (elim (conforms_below raw d c conforms) [
-    | inl same ↦ subst (λ k. IsBelow (supers_of raw.classes) c k) same (direct c d (has_super raw c d is))
-    | inr below ↦ by_way_of c d c (has_super raw c d is) below
-  ])
+  | inl same ↦ subst (λ k. IsBelow (supers_of raw.classes) c k) same (direct c d (has_super raw c d is))
+  | inr below ↦ by_way_of c d c (has_super raw c d is) below
+])

@@ -11,16 +11,16 @@ use Rattle.hs_meta.specs.Names.{differ}
 pub differ_not : (before behind : List (List ℕ)) (text : List ℕ) → list_any (same_text text) before ≡ true → differ (before ++ text ∷ behind) ≡ false
 differ_not [] behind text e = absurd (false≢true e)
 differ_not (first ∷ before) behind text e = elim (or_cases (same_text text first) (list_any (same_text text) before) e) [
-    | inl here ↦
-        let again : list_any (same_text first) (before ++ text ∷ behind) ≡ true =
-            list_any-append (same_text first) before (text ∷ behind)
-            ∙ or_right (list_any (same_text first) before) (same_text first text || list_any (same_text first) behind)
-            (or_left (same_text first text) (list_any (same_text first) behind) (nat_list_eq_equiv.symm first text ∙ here)) in
-        ap (λ b. not b && differ (before ++ text ∷ behind)) again
-    | inr later ↦
-        ap (λ b. not (list_any (same_text first) (before ++ text ∷ behind)) && b) (differ_not before behind text later)
-        ∙ and_right (not (list_any (same_text first) (before ++ text ∷ behind))) false refl
-  ]
+  | inl here ↦
+      let again : list_any (same_text first) (before ++ text ∷ behind) ≡ true =
+      list_any-append (same_text first) before (text ∷ behind)
+      ∙ or_right (list_any (same_text first) before) (same_text first text || list_any (same_text first) behind)
+      (or_left (same_text first text) (list_any (same_text first) behind) (nat_list_eq_equiv.symm first text ∙ here)) in
+      ap (λ b. not b && differ (before ++ text ∷ behind)) again
+  | inr later ↦
+      ap (λ b. not (list_any (same_text first) (before ++ text ∷ behind)) && b) (differ_not before behind text later)
+      ∙ and_right (not (list_any (same_text first) (before ++ text ∷ behind))) false refl
+]
 
 -- A new text at the end.
 pub differ_more : (before : List (List ℕ)) (text : List ℕ) → differ before ≡ true → list_any (same_text text) before ≡ false → differ (before ++ text ∷ []) ≡ true
@@ -29,9 +29,9 @@ differ_more (first ∷ before) text d n =
     let parts = and_parts (not (list_any (same_text first) before)) (differ before) d in
     let new = or_parts (same_text text first) (list_any (same_text text) before) n in
     let none : list_any (same_text first) (before ++ text ∷ []) ≡ false =
-        list_any-append (same_text first) before (text ∷ [])
-        ∙ or_from (list_any (same_text first) before) (same_text first text || false) (not-true (list_any (same_text first) before) parts.0)
-        (or_from (same_text first text) false (nat_list_eq_equiv.symm first text ∙ new.0) refl) in
+    list_any-append (same_text first) before (text ∷ [])
+    ∙ or_from (list_any (same_text first) before) (same_text first text || false) (not-true (list_any (same_text first) before) parts.0)
+    (or_from (same_text first text) false (nat_list_eq_equiv.symm first text ∙ new.0) refl) in
     and_from (not (list_any (same_text first) (before ++ text ∷ []))) (differ (before ++ text ∷ [])) (ap not none) (differ_more before text parts.1 new.1)
 
 -- What is among the texts and one more.

@@ -120,9 +120,9 @@ own_within classes c class at =
     let names_of : ℕ → RawClass → List (List ℕ) = λ d class. if conforms (supers_of classes) c d then spec.own_names class else [] in
     let itself : conforms (supers_of classes) c c ≡ true = or_left (eqb c c) (is_below (supers_of classes) c c) (eq-eqb c c refl) in
     let own : length (names_of c class) ≡ own_count class = ap (λ b. length (if b then spec.own_names class else [])) itself
-        ∙ length-append (map (λ (a : RawAttribute). a.name) class.attributes) (map (λ (r : RawReference). r.name) class.references)
-        ∙ ap (λ n. n + length (map (λ (r : RawReference). r.name) class.references)) (length-map class.attributes (λ (a : RawAttribute). a.name))
-        ∙ ap (λ n. length class.attributes + n) (length-map class.references (λ (r : RawReference). r.name)) in
+    ∙ length-append (map (λ (a : RawAttribute). a.name) class.attributes) (map (λ (r : RawReference). r.name) class.references)
+    ∙ ap (λ n. n + length (map (λ (r : RawReference). r.name) class.references)) (length-map class.attributes (λ (a : RawAttribute). a.name))
+    ∙ ap (λ n. length class.attributes + n) (length-map class.references (λ (r : RawReference). r.name)) in
     let here : length (names_of (0 + c) class) ≡ length (names_of c class) = ap (λ n. length (names_of n class)) (zero-add c) in
     omega (arith, own, here, found_within names_of 0 classes c class at)
 
