@@ -1,16 +1,15 @@
 -- What written classes without a fault mean is a metamodel that keeps the limits.
-use Rattle.std.proofs.Common.{ℕ, zero, suc, ◌+◌, ◌<◌, ◌≤◌, ◌≡◌, ◌⊎◌, ◌&&◌, ◌||◌, ◌++◌, List, [], ◌∷◌, Bool, true, false, not, cond, eqb, map, length, get_or, slice_get, Option, Some, None, IsSomeAnd, refl, ap, sym, ◌∙◌, subst, arith, inl, inr, append-nil, zero-add, if◌then◌else◌}
-use Rattle.std.proofs.lemmas.Bool.{false≢true, true≢false, and_parts, both_ways, cases_lt, cases_order, eq-eqb, not-true, or_cases, or_left, or_right}
+use Rattle.std.proofs.Common.{ℕ, zero, suc, ◌+◌, ◌<◌, ◌≤◌, ◌≡◌, ◌⊎◌, ◌++◌, List, [], ◌∷◌, Bool, true, false, not, cond, eqb, map, length, get_or, slice_get, Option, Some, IsSomeAnd, refl, ap, sym, ◌∙◌, subst, arith, inl, inr, if◌then◌else◌}
+use Rattle.std.proofs.lemmas.Bool.{and_parts, both_ways, cases_lt, cases_order, eq-eqb, not-true, or_cases, or_left, or_right}
 use Rattle.std.proofs.lemmas.List.{get_or_past, length-map, map-append}
-use Rattle.std.proofs.lemmas.List.Elements.{All-head, All-nil, All-tail, filter-append}
-use Rattle.std.proofs.lemmas.Option.{same_Some, slice_get-map}
+use Rattle.std.proofs.lemmas.List.Elements.{All-head, All-tail, filter-append}
+use Rattle.std.proofs.lemmas.Option.{same_Some}
 use Rattle.std.proofs.lemmas.Slice.Eq.{bytes_eq-Decides}
 use Rattle.std.specs.List.{All, filter, flat_map, list_any}
 use Rattle.std.specs.Option.{option_map, unwrap_or}
-use Rattle.hs_expr.specs.Verdict.{each, each_from}
+use Rattle.hs_expr.specs.Verdict.{each_from}
 use Rattle.hs_types.specs.declared.meta.Class.{Class}
 use Rattle.hs_types.specs.declared.meta.Feature.{Feature}
-use Rattle.hs_types.specs.declared.meta.Meta.{Meta}
 use Rattle.hs_types.specs.Limits.{IsSmallMeta}
 use Rattle.hs_types.specs.Lists.{Differ, each_once, has, places, same_text}
 use Rattle.hs_types.specs.Metamodel.{IsMeta, class_at, feature_at, features_of, owned_by}
@@ -19,7 +18,7 @@ use Rattle.hs_meta.specs.declared.raw.RawClass.{RawClass}
 use Rattle.hs_meta.specs.declared.raw.RawMeta.{RawMeta}
 use Rattle.hs_meta.specs.declared.raw.RawReference.{RawReference}
 use Rattle.hs_meta.specs.Faults as spec
-use Rattle.hs_meta.specs.Meaning.{attribute_of, class_of, direct_supers, features_at, features_within, meant, own_features, own_numbers, reference_of}
+use Rattle.hs_meta.specs.Meaning.{attribute_of, direct_supers, features_at, features_within, meant, own_features, own_numbers, reference_of}
 use Rattle.hs_meta.specs.Names.{differ}
 use Rattle.hs_meta.specs.Ranks.{ranks}
 use Rattle.hs_meta.specs.Rows.{rows}
@@ -27,7 +26,7 @@ use Rattle.hs_meta.specs.Supertypes.{IsBelow, by_way_of, conforms, direct, is_be
 use Rattle.hs_meta.proofs.Below.{says_below}
 use Rattle.hs_meta.proofs.Items as items
 use Rattle.hs_meta.proofs.MeantFeatures.{All-owned, Differ-own, features_in_order, features_sound, owned_is, owner_of, owners_stand}
-use Rattle.hs_meta.proofs.MeantMeta.{All-classes, class_meant, class_written, classes_long, names_differ, never_itself, supers_stand, without_cycle}
+use Rattle.hs_meta.proofs.MeantMeta.{All-classes, class_meant, classes_long, names_differ, never_itself, supers_stand, without_cycle}
 use Rattle.hs_meta.proofs.Order.{extends_at, rank_low, ranked}
 use Rattle.hs_meta.proofs.Ranked.{flat_map_agree, steady}
 use Rattle.hs_meta.proofs.Soundness.{AreSound, sound}

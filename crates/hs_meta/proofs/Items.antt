@@ -1,10 +1,10 @@
 -- Items of lists: what holds of each, what differs, and at which places they stand.
-use Rattle.std.proofs.Common.{ℕ, zero, suc, ◌+◌, ◌<◌, ◌≤◌, ◌≡◌, ◌⊎◌, ◌&&◌, ◌||◌, ◌++◌, List, [], ◌∷◌, Bool, true, false, cond, not, eqb, ltb, map, length, take, get_or, slice_get, Option, Some, None, IsSomeAnd, is_some, refl, ap, sym, ◌∙◌, subst, arith, inl, inr, add-zero, append-nil, length-append}
-use Rattle.std.proofs.lemmas.Bool.{false≢true, true≢false, both_ways, eq-eqb, eqb-true, eqb-false, ne_eqb, not-true, or_cases, or_left, or_parts, or_right}
+use Rattle.std.proofs.Common.{ℕ, zero, suc, ◌+◌, ◌<◌, ◌≤◌, ◌≡◌, ◌⊎◌, ◌||◌, ◌++◌, List, [], ◌∷◌, Bool, true, false, cond, not, eqb, ltb, map, length, take, get_or, slice_get, Option, Some, None, IsSomeAnd, is_some, refl, ap, sym, ◌∙◌, subst, arith, inl, inr, add-zero}
+use Rattle.std.proofs.lemmas.Bool.{false≢true, eq-eqb, eqb-true, eqb-false, ne_eqb, not-true, or_cases, or_left, or_parts, or_right}
 use Rattle.std.proofs.lemmas.Bool.Decides.{nat_tests}
 use Rattle.std.proofs.lemmas.List.Elements.{All-append, All-cons, All-filter, All-head, All-nil, All-tail, All-weaker, filter_passes}
 use Rattle.std.proofs.lemmas.List.Sums.{count_by-le-length, length-filter}
-use Rattle.std.proofs.lemmas.Option.{get_or_from_slice_get, same_Some, slice_get-get_or, slice_get_within}
+use Rattle.std.proofs.lemmas.Option.{get_or_from_slice_get, slice_get-get_or, slice_get_within}
 use Rattle.std.specs.List.{All, AllPairs, filter, flat_map, list_any, position, position_or_len, range_with_len}
 use Rattle.hs_expr.specs.Verdict.{each_from}
 use Rattle.hs_types.specs.Lists.{Differ, EachPair, each_once, has, places_from}

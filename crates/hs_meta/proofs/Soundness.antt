@@ -1,13 +1,11 @@
 -- What it says of classes that there is no fault.
-use Rattle.std.proofs.Common.{ℕ, zero, suc, ◌+◌, ◌*◌, ◌<◌, ◌≤◌, ◌≡◌, ◌++◌, List, [], ◌∷◌, Bool, true, false, not, cond, eqb, nat_lt, length, slice_get, Option, Some, None, is_some, Ok, Err, refl, ap, sym, ◌∙◌, subst, arith, zero-add, length-append, get_or, map, take, if◌then◌else◌}
-use Rattle.std.proofs.lemmas.Bool.{true≢false, ltb-false, not-false, eq-eqb, or_left}
+use Rattle.std.proofs.Common.{ℕ, zero, suc, ◌+◌, ◌≤◌, ◌≡◌, ◌++◌, List, [], ◌∷◌, Bool, true, false, not, eqb, nat_lt, length, slice_get, Some, is_some, Ok, refl, ap, sym, ◌∙◌, arith, zero-add, length-append, get_or, map, take, if◌then◌else◌}
+use Rattle.std.proofs.lemmas.Bool.{ltb-false, not-false, eq-eqb, or_left}
 use Rattle.std.proofs.lemmas.Option.{slice_get-get_or}
 use Rattle.std.proofs.lemmas.List.{length-map}
 use Rattle.std.proofs.lemmas.List.Sums.{sum_by-le}
 use Rattle.std.specs.List.{All, sum_by}
 use Rattle.hs_expr.specs.Verdict.{verdict, each, each_from, fault_if}
-use Rattle.hs_meta.specs.Answers.{Tells}
-use Rattle.hs_meta.specs.declared.fault.ModelFault.{ModelFault}
 use Rattle.hs_meta.specs.declared.fault.ModelFault.TheVariants.{Fault}
 use Rattle.hs_meta.specs.declared.fault.ModelFaultKind.TheVariants as kind
 use Rattle.hs_meta.specs.declared.fault.ModelPlace.TheVariants as place

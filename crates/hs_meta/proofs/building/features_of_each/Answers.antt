@@ -1,8 +1,7 @@
-use Rattle.std.proofs.Common.{◌≡◌, ◌≤◌, ◌∙◌, List, ℕ, ap, sym, subst, length}
+use Rattle.std.proofs.Common.{◌≤◌, ◌∙◌, List, ℕ, ap, sym, subst, length}
 use Rattle.std.specs.List.{All}
 use Rattle.hs_meta.specs.declared.checking.Supers.{Supers}
 use Rattle.hs_meta.specs.Ranks.{AreRanked, ranks}
-use Rattle.hs_meta.specs.Rows.{rows}
 use Rattle.hs_meta.specs.Supertypes.{supers_of}
 use Rattle.hs_meta.proofs.Order.{rank_low, ranked}
 use Rattle.hs_meta.proofs.Soundness.{own_few, sound}

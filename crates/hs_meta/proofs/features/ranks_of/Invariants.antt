@@ -1,4 +1,4 @@
-use Rattle.std.proofs.Common.{◌≡◌, ◌++◌, drop, map}
+use Rattle.std.proofs.Common.{◌≡◌, ◌++◌, drop}
 use Rattle.hs_meta.specs.Ranks.{ranks}
 use Rattle.hs_meta.proofs.features.ranks_of.Given as goal
 

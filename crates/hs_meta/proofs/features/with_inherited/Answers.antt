@@ -1,4 +1,4 @@
-use Rattle.std.proofs.Common.{◌∙◌, ap, arith}
+use Rattle.std.proofs.Common.{◌∙◌, arith}
 use Rattle.hs_meta.proofs.Ranked.{found_all}
 use Rattle.hs_meta.proofs.features.with_inherited.Goals as goal
 
