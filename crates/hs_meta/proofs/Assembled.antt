@@ -1,6 +1,5 @@
 -- Lists that are made item by item of the items that are left.
-use Rattle.std.proofs.Common.{ℕ, suc, ◌+◌, ◌≡◌, ◌++◌, List, [], ◌∷◌, length, ap, sym, ◌∙◌, arith, append_assoc}
-use Rattle.std.proofs.lemmas.List.{length_push}
+use Rattle.std.proofs.Common.{ℕ, ◌+◌, ◌≡◌, ◌++◌, List, ◌∷◌, ap, sym, ◌∙◌, append_assoc}
 use Rattle.hs_expr.specs.Verdict.{each_from}
 
 -- What is made of one more item stands behind what was made.

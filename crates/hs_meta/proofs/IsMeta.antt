@@ -1,16 +1,15 @@
 -- What written classes without a fault mean is a metamodel that keeps the limits.
-use Rattle.std.proofs.Common.{ℕ, zero, suc, ◌+◌, ◌<◌, ◌≤◌, ◌≡◌, ◌⊎◌, ◌&&◌, ◌||◌, ◌++◌, List, [], ◌∷◌, Bool, true, false, not, cond, eqb, map, length, get_or, slice_get, Option, Some, None, IsSomeAnd, refl, ap, sym, ◌∙◌, subst, arith, inl, inr, append-nil, zero-add, if◌then◌else◌}
-use Rattle.std.proofs.lemmas.Bool.{false≢true, true≢false, and_parts, both_ways, cases_lt, cases_order, eq-eqb, not-true, or_cases, or_left, or_right}
+use Rattle.std.proofs.Common.{ℕ, zero, suc, ◌+◌, ◌<◌, ◌≤◌, ◌≡◌, ◌⊎◌, ◌++◌, List, [], ◌∷◌, Bool, true, false, not, cond, eqb, map, length, get_or, slice_get, Option, Some, IsSomeAnd, refl, ap, sym, ◌∙◌, subst, arith, inl, inr, if◌then◌else◌}
+use Rattle.std.proofs.lemmas.Bool.{and_parts, both_ways, cases_lt, cases_order, eq-eqb, not-true, or_cases, or_left, or_right}
 use Rattle.std.proofs.lemmas.List.{get_or_past, length-map, map-append}
-use Rattle.std.proofs.lemmas.List.Elements.{All-head, All-nil, All-tail, filter-append}
-use Rattle.std.proofs.lemmas.Option.{same_Some, slice_get-map}
+use Rattle.std.proofs.lemmas.List.Elements.{All-head, All-tail, filter-append}
+use Rattle.std.proofs.lemmas.Option.{same_Some}
 use Rattle.std.proofs.lemmas.Slice.Eq.{bytes_eq-Decides}
 use Rattle.std.specs.List.{All, filter, flat_map, list_any}
 use Rattle.std.specs.Option.{option_map, unwrap_or}
-use Rattle.hs_expr.specs.Verdict.{each, each_from}
+use Rattle.hs_expr.specs.Verdict.{each_from}
 use Rattle.hs_types.specs.declared.meta.Class.{Class}
 use Rattle.hs_types.specs.declared.meta.Feature.{Feature}
-use Rattle.hs_types.specs.declared.meta.Metamodel.{Metamodel}
 use Rattle.hs_types.specs.Limits.{IsSmallMeta}
 use Rattle.hs_types.specs.Lists.{Differ, each_once, has, places, same_text}
 use Rattle.hs_types.specs.Metamodel.{IsMeta, class_at, feature_at, features_of, owned_by}
@@ -19,7 +18,7 @@ use Rattle.hs_meta.specs.declared.raw.RawClass.{RawClass}
 use Rattle.hs_meta.specs.declared.raw.RawMeta.{RawMeta}
 use Rattle.hs_meta.specs.declared.raw.RawReference.{RawReference}
 use Rattle.hs_meta.specs.Faults as spec
-use Rattle.hs_meta.specs.Meaning.{attribute_of, class_of, direct_supers, features_at, features_within, meant, own_features, own_numbers, reference_of}
+use Rattle.hs_meta.specs.Meaning.{attribute_of, direct_supers, features_at, features_within, meant, own_features, own_numbers, reference_of}
 use Rattle.hs_meta.specs.Names.{differ}
 use Rattle.hs_meta.specs.Ranks.{ranks}
 use Rattle.hs_types.specs.Supertypes.{rows}
@@ -28,7 +27,7 @@ use Rattle.hs_meta.specs.Supertypes.{supers_of}
 use Rattle.hs_types.proofs.Below.{says_below}
 use Rattle.hs_meta.proofs.Items as items
 use Rattle.hs_meta.proofs.MeantFeatures.{All-owned, Differ-own, features_in_order, features_sound, owned_is, owner_of, owners_stand}
-use Rattle.hs_meta.proofs.MeantMeta.{All-classes, class_meant, class_written, classes_long, names_differ, never_itself, supers_stand, without_cycle}
+use Rattle.hs_meta.proofs.MeantMeta.{All-classes, class_meant, classes_long, names_differ, never_itself, supers_stand, without_cycle}
 use Rattle.hs_meta.proofs.Order.{extends_at, rank_low, ranked}
 use Rattle.hs_meta.proofs.Ranked.{flat_map_agree, steady}
 use Rattle.hs_meta.proofs.Soundness.{AreSound, sound}
@@ -59,8 +58,8 @@ features_whole raw s c low =
     let class = class_with classes c (omega (arith, low, classes_long raw)) in
     let supers : get_or (supers_of classes) c [] ≡ direct_supers classes class.0 = supers_at classes c class.0 class.1 in
     let same : (d : ℕ) → has (direct_supers classes class.0) d ≡ true → features_at classes d ≡ features_of (meant raw) d =
-        λ d e. let below = stand_within classes c d (ap (λ ns. has ns d) supers ∙ e) in
-        let super = class_with classes d (omega (arith, below, length-map classes (direct_supers classes))) in sym (features_meant raw d super.0 super.1) in
+    λ d e. let below = stand_within classes c d (ap (λ ns. has ns d) supers ∙ e) in
+    let super = class_with classes d (omega (arith, below, length-map classes (direct_supers classes))) in sym (features_meant raw d super.0 super.1) in
     subst (λ (found : Option Class). IsSomeAnd found (λ class. class.features ≡ each_once (flat_map (features_of (meant raw)) class.supers) ++ owned_by (meant raw) c)) (sym (class_meant raw c class.0 class.1))
     (features_law classes s c
     ∙ ap (λ ds. each_once (flat_map (features_at classes) ds) ++ get_or (own_numbers classes) c []) supers
@@ -85,11 +84,14 @@ reached classes (suc steps) c f e =
     go (inl inherited) later =
         let found = items.has-flat_map (features_within (supers_of classes) (own_numbers classes) steps) (get_or (supers_of classes) c []) f (items.has-each_once (flat_map (features_within (supers_of classes) (own_numbers classes) steps) (get_or (supers_of classes) c [])) f inherited) in
         let owner = later found.0 found.2 in
-        let is = extends_at (supers_of classes) c found.0 found.1 in
-        (owner.0, elim owner.1 [
-          | inl same ↦ inr (subst (λ k. IsBelow (supers_of classes) c k) same (direct c found.0 is))
-          | inr below ↦ inr (by_way_of c found.0 owner.0 is below)
-        ], owner.2)
+        let is = extends_at (supers_of classes) c found.0 found.1 in (
+          owner.0,
+          elim owner.1 [
+            | inl same ↦ inr (subst (λ k. IsBelow (supers_of classes) c k) same (direct c found.0 is))
+            | inr below ↦ inr (by_way_of c found.0 owner.0 is below)
+          ],
+          owner.2,
+        )
     go (inr own) later = (c, inl refl, own)
 
 -- No feature comes twice.
@@ -110,9 +112,9 @@ features_once raw s c =
         let owner = reached raw.classes (length raw.classes) found.0 f found.2 in
         let is = extends_at (supers_of raw.classes) c found.0 found.1 in
         let below : IsBelow (supers_of raw.classes) c owner.0 = elim owner.1 [
-            | inl there ↦ subst (λ k. IsBelow (supers_of raw.classes) c k) there (direct c found.0 is)
-            | inr further ↦ by_way_of c found.0 owner.0 is further
-          ] in
+          | inl there ↦ subst (λ k. IsBelow (supers_of raw.classes) c k) there (direct c found.0 is)
+          | inr further ↦ by_way_of c found.0 owner.0 is further
+        ] in
         let a = owner_of raw owner.0 f owner.2 in
         let b = owner_of raw c g h in
         let one : a.0 ≡ b.0 = same_Some a.0 b.0 (sym a.1 ∙ ap (feature_at (meant raw)) same ∙ b.1) in
@@ -128,9 +130,9 @@ feature_of raw c f e =
     let owner = reached raw.classes (length raw.classes) c f e in
     let found = owner_of raw owner.0 f owner.2 in
     let conforms_to : conforms (supers_of raw.classes) c owner.0 ≡ true = elim owner.1 [
-        | inl same ↦ or_left (eqb c owner.0) (is_below (supers_of raw.classes) c owner.0) (eq-eqb c owner.0 same)
-        | inr below ↦ or_right (eqb c owner.0) (is_below (supers_of raw.classes) c owner.0) ((says_below (supers_of raw.classes) c owner.0).1 below)
-      ] in
+      | inl same ↦ or_left (eqb c owner.0) (is_below (supers_of raw.classes) c owner.0) (eq-eqb c owner.0 same)
+      | inr below ↦ or_right (eqb c owner.0) (is_below (supers_of raw.classes) c owner.0) ((says_below (supers_of raw.classes) c owner.0).1 below)
+    ] in
     (found.0, found.1, ap (conforms (supers_of raw.classes) c) found.2 ∙ conforms_to)
 
 -- ---- the names of features
@@ -163,8 +165,8 @@ names_of all c k (class ∷ classes) =
     let later = each_from (own_features all) (k + 1) classes in
     let test : Bool = conforms (supers_of all) c k in
     let here : map (λ feature. feature.name) (filter (is_of all c) own) ≡ (if test then spec.own_names class else []) =
-        ap (map (λ (feature : Feature). feature.name)) (filter_same (is_of all c) test own (All-owned all (λ feature. is_of all c feature ≡ test) k class (λ feature same. ap (conforms (supers_of all) c) same)))
-        ∙ if_map test own ∙ ap (λ ts. if test then ts else []) (own_names all k class) in
+    ap (map (λ (feature : Feature). feature.name)) (filter_same (is_of all c) test own (All-owned all (λ feature. is_of all c feature ≡ test) k class (λ feature same. ap (conforms (supers_of all) c) same)))
+    ∙ if_map test own ∙ ap (λ ts. if test then ts else []) (own_names all k class) in
     ap (λ ts. (if test then spec.own_names class else []) ++ ts) (names_of all c (k + 1) classes)
     ∙ ap (λ ts. ts ++ map (λ (feature : Feature). feature.name) (filter (is_of all c) later)) (sym here)
     ∙ sym (ap (map (λ (feature : Feature). feature.name)) (filter-append (is_of all c) own later) ∙ map-append (λ (feature : Feature). feature.name) (filter (is_of all c) own) (filter (is_of all c) later))

@@ -1,10 +1,10 @@
 -- Items of lists: what holds of each, what differs, and at which places they stand.
-use Rattle.std.proofs.Common.{ℕ, zero, suc, ◌+◌, ◌<◌, ◌≤◌, ◌≡◌, ◌⊎◌, ◌&&◌, ◌||◌, ◌++◌, List, [], ◌∷◌, Bool, true, false, cond, not, eqb, ltb, map, length, take, get_or, slice_get, Option, Some, None, IsSomeAnd, is_some, refl, ap, sym, ◌∙◌, subst, arith, inl, inr, add-zero, append-nil, length-append}
-use Rattle.std.proofs.lemmas.Bool.{false≢true, true≢false, both_ways, eq-eqb, eqb-true, eqb-false, ne_eqb, not-true, or_cases, or_left, or_parts, or_right}
+use Rattle.std.proofs.Common.{ℕ, zero, suc, ◌+◌, ◌<◌, ◌≤◌, ◌≡◌, ◌⊎◌, ◌||◌, ◌++◌, List, [], ◌∷◌, Bool, true, false, cond, not, eqb, ltb, map, length, take, get_or, slice_get, Option, Some, None, IsSomeAnd, is_some, refl, ap, sym, ◌∙◌, subst, arith, inl, inr, add-zero}
+use Rattle.std.proofs.lemmas.Bool.{false≢true, eq-eqb, eqb-true, eqb-false, ne_eqb, not-true, or_cases, or_left, or_parts, or_right}
 use Rattle.std.proofs.lemmas.Bool.Decides.{nat_tests}
 use Rattle.std.proofs.lemmas.List.Elements.{All-append, All-cons, All-filter, All-head, All-nil, All-tail, All-weaker, filter_passes}
 use Rattle.std.proofs.lemmas.List.Sums.{count_by-le-length, length-filter}
-use Rattle.std.proofs.lemmas.Option.{get_or_from_slice_get, same_Some, slice_get-get_or, slice_get_within}
+use Rattle.std.proofs.lemmas.Option.{get_or_from_slice_get, slice_get-get_or, slice_get_within}
 use Rattle.std.specs.List.{All, AllPairs, filter, flat_map, list_any, position, position_or_len, range_with_len}
 use Rattle.hs_expr.specs.Verdict.{each_from}
 use Rattle.hs_types.specs.Lists.{Differ, EachPair, each_once, has, places_from}
@@ -90,9 +90,9 @@ All-from_has P (n ∷ ns) h = All-cons P n ns (h n (or_left (eqb n n) (has ns n)
 pub All-at_has : (P : ℕ → Type 0) (ns : List ℕ) (n : ℕ) → All P ns → has ns n ≡ true → P n
 All-at_has P [] n a e = absurd (false≢true e)
 All-at_has P (m ∷ ns) n a e = elim (or_cases (eqb n m) (has ns n) e) [
-    | inl same ↦ subst P (sym (eqb-true n m same)) (All-head P m ns a)
-    | inr later ↦ All-at_has P ns n (All-tail P m ns a) later
-  ]
+  | inl same ↦ subst P (sym (eqb-true n m same)) (All-head P m ns a)
+  | inr later ↦ All-at_has P ns n (All-tail P m ns a) later
+]
 
 pub has-append : (ms ns : List ℕ) (n : ℕ) → has (ms ++ ns) n ≡ (has ms n || has ns n)
 has-append [] ns n = refl
@@ -113,9 +113,9 @@ has-filter p (m ∷ ns) n e = go (p m) refl e (has-filter p ns n)
   where
     go : (b : Bool) → p m ≡ b → has (cond b (m ∷ filter p ns) (filter p ns)) n ≡ true → (has (filter p ns) n ≡ true → (has ns n ≡ true) × (p n ≡ true)) → (has (m ∷ ns) n ≡ true) × (p n ≡ true)
     go true is e later = elim (or_cases (eqb n m) (has (filter p ns) n) e) [
-        | inl same ↦ (or_left (eqb n m) (has ns n) same, ap p (eqb-true n m same) ∙ is)
-        | inr there ↦ (or_right (eqb n m) (has ns n) (later there).0, (later there).1)
-      ]
+      | inl same ↦ (or_left (eqb n m) (has ns n) same, ap p (eqb-true n m same) ∙ is)
+      | inr there ↦ (or_right (eqb n m) (has ns n) (later there).0, (later there).1)
+    ]
     go false is e later = (or_right (eqb n m) (has ns n) (later e).0, (later e).1)
 
 has-kept : (p : ℕ → Bool) (ns : List ℕ) (n : ℕ) → has ns n ≡ true → p n ≡ true → has (filter p ns) n ≡ true
@@ -135,7 +135,6 @@ apart n (m ∷ ns) e = let parts = or_parts (eqb n m) (has ns n) e in All-cons (
 absent : (n : ℕ) (ns : List ℕ) → All (λ k. n ≡ k → ⊥) ns → (k : ℕ) → has ns k ≡ true → not (eqb k n) ≡ true
 absent n ns a k e = ap not (ne_eqb k n (λ same. All-at_has (λ k. n ≡ k → ⊥) ns k a e (sym same)))
 
-
 pub Differ-filter : (p : ℕ → Bool) (ns : List ℕ) → Differ ns → Differ (filter p ns)
 Differ-filter p [] d = tt
 Differ-filter p (n ∷ ns) d = go (p n) (Differ-filter p ns d.1) (All-filter p (λ k. n ≡ k → ⊥) ns d.0)
@@ -154,16 +153,16 @@ Differ-each_once (n ∷ ns) = (
 pub has-each_once : (ns : List ℕ) (k : ℕ) → has (each_once ns) k ≡ true → has ns k ≡ true
 has-each_once [] k e = e
 has-each_once (n ∷ ns) k e = elim (or_cases (eqb k n) (has (filter (λ j. not (eqb j n)) (each_once ns)) k) e) [
-    | inl same ↦ or_left (eqb k n) (has ns k) same
-    | inr there ↦ or_right (eqb k n) (has ns k) (has-each_once ns k (has-filter (λ j. not (eqb j n)) (each_once ns) k there).0)
-  ]
+  | inl same ↦ or_left (eqb k n) (has ns k) same
+  | inr there ↦ or_right (eqb k n) (has ns k) (has-each_once ns k (has-filter (λ j. not (eqb j n)) (each_once ns) k there).0)
+]
 
 pub has-flat_map : (f : ℕ → List ℕ) (ns : List ℕ) (k : ℕ) → has (flat_map f ns) k ≡ true → (n : ℕ) × (has ns n ≡ true) × (has (f n) k ≡ true)
 has-flat_map f [] k e = absurd (false≢true e)
 has-flat_map f (n ∷ ns) k e = elim (or_cases (has (f n) k) (has (flat_map f ns) k) (sym (has-append (f n) (flat_map f ns) k) ∙ e)) [
-    | inl here ↦ (n, or_left (eqb n n) (has ns n) (eq-eqb n n refl), here)
-    | inr there ↦ let found = has-flat_map f ns k there in (found.0, or_right (eqb found.0 n) (has ns found.0) found.1, found.2)
-  ]
+  | inl here ↦ (n, or_left (eqb n n) (has ns n) (eq-eqb n n refl), here)
+  | inr there ↦ let found = has-flat_map f ns k there in (found.0, or_right (eqb found.0 n) (has ns found.0) found.1, found.2)
+]
 
 range_apart : (a n k : ℕ) → a < n → All (λ m. a ≡ m → ⊥) (range_with_len n k)
 range_apart a n zero h = All-nil (λ m. a ≡ m → ⊥)
@@ -191,7 +190,7 @@ pub no_more_than : (ms ns : List ℕ) → Differ ms → ((n : ℕ) → has ms n 
 no_more_than [] ns d h = omega arith
 no_more_than (m ∷ ms) ns d h =
     let rest = no_more_than ms (filter (λ k. not (eqb k m)) ns) d.1
-        (λ k e. has-kept (λ k. not (eqb k m)) ns k (h k (or_right (eqb k m) (has ms k) e)) (absent m ms d.0 k e)) in
+    (λ k e. has-kept (λ k. not (eqb k m)) ns k (h k (or_right (eqb k m) (has ms k) e)) (absent m ms d.0 k e)) in
     let fewer = fewer_without ns m (h m (or_left (eqb m m) (has ms m) (eq-eqb m m refl))) in
     omega arith
 
@@ -226,9 +225,9 @@ place_from {A} n t (x ∷ xs) k e = go (t x) refl e (place_from (n + 1) t xs k)
     go : (b : Bool) → t x ≡ b → has (cond b (n ∷ places_from (n + 1) t xs) (places_from (n + 1) t xs)) k ≡ true → (has (places_from (n + 1) t xs) k ≡ true → (i : ℕ) × (y : A) × (k ≡ n + 1 + i) × (slice_get xs i ≡ Some y) × (t y ≡ true)) →
         (i : ℕ) × (y : A) × (k ≡ n + i) × (slice_get (x ∷ xs) i ≡ Some y) × (t y ≡ true)
     go true is e rest = elim (or_cases (eqb k n) (has (places_from (n + 1) t xs) k) e) [
-        | inl same ↦ (0, x, eqb-true k n same ∙ sym (add-zero n), refl, is)
-        | inr there ↦ later (rest there)
-      ]
+      | inl same ↦ (0, x, eqb-true k n same ∙ sym (add-zero n), refl, is)
+      | inr there ↦ later (rest there)
+    ]
     go false is e rest = later (rest e)
 
 pub place_at : {A : Type 0} (t : A → Bool) (xs : List A) (k : ℕ) → has (places_from 0 t xs) k ≡ true → (x : A) × (slice_get xs k ≡ Some x) × (t x ≡ true)

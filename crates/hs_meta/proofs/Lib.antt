@@ -1,6 +1,6 @@
 pub mod Answers
-pub mod Below
 pub mod Rowed
+pub mod Below
 pub mod Inheriting
 pub mod Ranked
 pub mod Places
@@ -12,4 +12,5 @@ pub mod Items
 pub mod MeantMeta
 pub mod MeantFeatures
 pub mod IsMeta
+pub mod Repeats
 pub mod NoneMissing

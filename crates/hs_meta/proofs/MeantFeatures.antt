@@ -1,16 +1,15 @@
 -- The features that written classes mean: whose they are, how they are numbered, and in which order they stand.
-use Rattle.std.proofs.Common.{ℕ, zero, suc, ℤ, pos, negsuc, ◌+◌, ◌<◌, ◌≤◌, ◌≡◌, ◌⊎◌, ◌++◌, List, [], ◌∷◌, Bool, true, false, not, cond, eqb, nat_lt, nat_le, map, length, get_or, slice_get, Option, Some, None, IfSome, is_some, refl, ap, sym, ◌∙◌, subst, arith, inl, inr, length-append, append-nil, zero-add, add-zero, if◌then◌else◌}
-use Rattle.std.proofs.lemmas.Bool.{false≢true, true≢false, and_parts, both_ways, eq-eqb, eqb-true, ltb-true, leb-true, ne_eqb}
-use Rattle.std.proofs.lemmas.List.{length-map, map-append}
-use Rattle.std.proofs.lemmas.List.Elements.{All-append, All-head, All-cons, All-map, All-nil, All-tail, filter-append}
+use Rattle.std.proofs.Common.{ℕ, zero, suc, ℤ, pos, negsuc, ◌+◌, ◌<◌, ◌≤◌, ◌≡◌, ◌++◌, List, [], ◌∷◌, Bool, true, false, eqb, nat_lt, nat_le, map, length, get_or, slice_get, Option, Some, None, IfSome, is_some, refl, ap, sym, ◌∙◌, arith, inl, inr, length-append, append-nil, zero-add}
+use Rattle.std.proofs.lemmas.Bool.{false≢true, and_parts, both_ways, eq-eqb, eqb-true, ltb-true, leb-true, ne_eqb}
+use Rattle.std.proofs.lemmas.List.{length-map}
+use Rattle.std.proofs.lemmas.List.Elements.{All-append, All-head, All-map, All-tail}
 use Rattle.std.proofs.lemmas.Option.{slice_get_within}
-use Rattle.std.specs.List.{All, AllPairs, filter, list_any, range_with_len}
+use Rattle.std.specs.List.{All, AllPairs, range_with_len}
 use Rattle.std.specs.Option.{option_map_or, unwrap_or}
-use Rattle.hs_expr.specs.Verdict.{each, each_from}
+use Rattle.hs_expr.specs.Verdict.{each_from}
 use Rattle.hs_types.specs.declared.meta.DataType.{DataType}
 use Rattle.hs_types.specs.declared.meta.DataType.TheVariants.{EInt, ELong, EBoolean, EString}
 use Rattle.hs_types.specs.declared.meta.Feature.{Feature}
-use Rattle.hs_types.specs.declared.meta.FeatureKind.{FeatureKind}
 use Rattle.hs_types.specs.Lists.{Differ, EachPair, has, places_from, same_text}
 use Rattle.hs_types.specs.Metamodel.{FeatureFits, StandBefore, feature_at, is_attribute, is_of_type, owned_by}
 use Rattle.hs_meta.specs.declared.raw.RawAttribute.{RawAttribute}
@@ -20,8 +19,8 @@ use Rattle.hs_meta.specs.declared.raw.RawDefault.TheVariants.{LeftOut, Given, No
 use Rattle.hs_meta.specs.declared.raw.RawMeta.{RawMeta}
 use Rattle.hs_meta.specs.declared.raw.RawReference.{RawReference}
 use Rattle.hs_meta.specs.Faults as spec
-use Rattle.hs_meta.specs.Meaning.{attribute_of, data_type_of, default_value, least, meant, most, own_count, own_features, own_numbers, own_numbers_from, plain_value, reference_of}
-use Rattle.hs_meta.specs.Names.{class_named, data_type_named, is_class}
+use Rattle.hs_meta.specs.Meaning.{attribute_of, default_value, least, meant, most, own_count, own_features, own_numbers, own_numbers_from, plain_value, reference_of}
+use Rattle.hs_meta.specs.Names.{class_named, data_type_named}
 use Rattle.hs_meta.proofs.Items as items
 use Rattle.hs_meta.proofs.MeantMeta.{classes_long}
 use Rattle.hs_meta.proofs.Soundness.{AreSound}
@@ -61,7 +60,7 @@ owned_places all n k zero (class ∷ classes) =
     let test : Feature → Bool = λ feature. eqb feature.owner (k + 0) in
     let these : places_from n test own ≡ range_with_len n (length own) = items.places-every n test own (All-owned all (λ feature. test feature ≡ true) k class (λ feature same. eq-eqb feature.owner (k + 0) (omega arith))) in
     let none : places_from (n + length own) test later ≡ [] =
-        items.places-none (n + length own) test later (owned_later all (k + 1) classes (λ feature. test feature ≡ false) (λ feature from below. ne_eqb feature.owner (k + 0) (λ same. absurd (omega arith)))) in
+    items.places-none (n + length own) test later (owned_later all (k + 1) classes (λ feature. test feature ≡ false) (λ feature from below. ne_eqb feature.owner (k + 0) (λ same. absurd (omega arith)))) in
     items.places-append n test own later ∙ ap (λ ks. ks ++ places_from (n + length own) test later) these ∙ ap (λ ks. range_with_len n (length own) ++ ks) none
     ∙ append-nil (range_with_len n (length own)) ∙ ap (range_with_len n) (own_features_long all k class)
 owned_places all n k (suc j) (class ∷ classes) =

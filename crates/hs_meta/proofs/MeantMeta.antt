@@ -1,40 +1,23 @@
 -- What written classes without a fault mean is a metamodel.
-use Rattle.std.proofs.Common.{ℕ, zero, suc, ℤ, pos, negsuc, ◌+◌, ◌<◌, ◌≤◌, ◌≡◌, ◌⊎◌, ◌++◌, List, [], ◌∷◌, Bool, true, false, not, cond, eqb, nat_lt, map, length, take, get_or, slice_get, Option, Some, None, IsSome, IsSomeAnd, IfSome, is_some, refl, ap, sym, ◌∙◌, subst, arith, inl, inr, length-append, append-nil}
-use Rattle.std.proofs.lemmas.Bool.{false≢true, true≢false, and_parts, both_ways, cases_lt, eq-eqb, eqb-true, ltb-true, leb-true, ne_eqb, or_left}
-use Rattle.std.proofs.lemmas.List.{get_or-map, get_or_past, length-map}
-use Rattle.std.proofs.lemmas.List.Elements.{All-append, All-cons, All-head, All-map, All-nil, All-tail, All-weaker}
-use Rattle.std.proofs.lemmas.Option.{get_or_from_slice_get, slice_get-get_or, slice_get-map, slice_get_past, slice_get_within}
+use Rattle.std.proofs.Common.{ℕ, zero, suc, ◌<◌, ◌≡◌, ◌⊎◌, List, [], ◌∷◌, true, map, length, slice_get, Option, Some, IsSomeAnd, refl, ap, sym, ◌∙◌, subst, arith, inl, inr}
+use Rattle.std.proofs.lemmas.Bool.{both_ways}
+use Rattle.std.proofs.lemmas.List.{length-map}
+use Rattle.std.proofs.lemmas.Option.{slice_get-map, slice_get_within}
 use Rattle.std.proofs.lemmas.Slice.Eq.{bytes_eq-Decides}
-use Rattle.std.specs.List.{All, AllPairs, filter, filter_map, flat_map, list_any, range_with_len}
-use Rattle.std.specs.Option.{option_map, option_map_or, unwrap_or}
-use Rattle.hs_expr.specs.declared.value.Value.{Value}
-use Rattle.hs_expr.specs.Verdict.{each, each_from}
+use Rattle.std.specs.List.{All}
+use Rattle.std.specs.Option.{option_map}
 use Rattle.hs_types.specs.declared.meta.Class.{Class}
-use Rattle.hs_types.specs.declared.meta.DataType.{DataType}
-use Rattle.hs_types.specs.declared.meta.DataType.TheVariants.{EInt, ELong, EBoolean, EString}
-use Rattle.hs_types.specs.declared.meta.Feature.{Feature}
-use Rattle.hs_types.specs.declared.meta.Metamodel.{Metamodel}
-use Rattle.hs_types.specs.Lists.{Differ, EachPair, each_once, has, places, places_from, same_text}
-use Rattle.hs_types.specs.Metamodel.{Conforms, FeatureFits, HasSuper, IsMeta, StandBefore, above, class_at, feature_at, features_of, is_attribute, is_of_type, itself, owned_by}
-use Rattle.hs_meta.specs.declared.raw.RawAttribute.{RawAttribute}
+use Rattle.hs_types.specs.Lists.{Differ, has, same_text}
+use Rattle.hs_types.specs.Metamodel.{Conforms, HasSuper, above, class_at, itself}
 use Rattle.hs_meta.specs.declared.raw.RawClass.{RawClass}
-use Rattle.hs_meta.specs.declared.raw.RawDefault.{RawDefault}
-use Rattle.hs_meta.specs.declared.raw.RawDefault.TheVariants.{LeftOut, Given, NoValue}
 use Rattle.hs_meta.specs.declared.raw.RawMeta.{RawMeta}
-use Rattle.hs_meta.specs.declared.raw.RawReference.{RawReference}
-use Rattle.hs_meta.specs.Faults as spec
-use Rattle.hs_meta.specs.Meaning.{attribute_of, class_of, data_type_of, default_value, direct_supers, features_at, features_within, least, meant, most, own_count, own_features, own_numbers, own_numbers_from, plain_value, reference_of}
-use Rattle.hs_meta.specs.Names.{class_named, data_type_named, is_class}
-use Rattle.hs_meta.specs.Ranks.{AreRanked, ranks}
-use Rattle.hs_types.specs.Supertypes.{rows}
+use Rattle.hs_meta.specs.Meaning.{class_of, direct_supers, meant}
 use Rattle.hs_types.specs.Supertypes.{Extends, IsBelow, by_way_of, direct, is_below}
 use Rattle.hs_meta.specs.Supertypes.{supers_of}
 use Rattle.hs_types.proofs.Below.{says_below}
 use Rattle.hs_meta.proofs.Items as items
-use Rattle.hs_meta.proofs.Order.{rank_low, ranked}
-use Rattle.hs_meta.proofs.Ranked.{flat_map_agree, has-head, has-tail, steady}
-use Rattle.hs_meta.proofs.Soundness.{AreSound, sound}
-use Rattle.hs_meta.proofs.Standing.{class_at as class_with, named_within, no_cycle, own_long, ranks_long, stand_within, supers_at}
+use Rattle.hs_meta.proofs.Soundness.{AreSound}
+use Rattle.hs_meta.proofs.Standing.{class_at as class_with, no_cycle, stand_within, supers_at}
 
 -- ---- classes
 
@@ -97,9 +80,9 @@ has_super raw c d h =
 pub conforms_below : (raw : RawMeta) (c d : ℕ) → Conforms (meant raw) c d → (c ≡ d) ⊎ IsBelow (supers_of raw.classes) c d
 conforms_below raw c d (itself _) = inl refl
 conforms_below raw c e (above _ d _ is rest) = elim (conforms_below raw d e rest) [
-    | inl same ↦ inr (subst (λ k. IsBelow (supers_of raw.classes) c k) same (direct c d (has_super raw c d is)))
-    | inr below ↦ inr (by_way_of c d e (has_super raw c d is) below)
-  ]
+  | inl same ↦ inr (subst (λ k. IsBelow (supers_of raw.classes) c k) same (direct c d (has_super raw c d is)))
+  | inr below ↦ inr (by_way_of c d e (has_super raw c d is) below)
+]
 
 -- What is below has supertypes, so it is a class.
 below_low : (supers : List (List ℕ)) (c d : ℕ) → IsBelow supers c d → c < length supers
@@ -115,6 +98,6 @@ never_itself raw s c below = both_ways (is_below (supers_of raw.classes) c c) (n
 
 pub without_cycle : (raw : RawMeta) → AreSound raw.classes → (c d : ℕ) → HasSuper (meant raw) c d → Conforms (meant raw) d c → ⊥
 without_cycle raw s c d is conforms = never_itself raw s c (elim (conforms_below raw d c conforms) [
-    | inl same ↦ subst (λ k. IsBelow (supers_of raw.classes) c k) same (direct c d (has_super raw c d is))
-    | inr below ↦ by_way_of c d c (has_super raw c d is) below
-  ])
+  | inl same ↦ subst (λ k. IsBelow (supers_of raw.classes) c k) same (direct c d (has_super raw c d is))
+  | inr below ↦ by_way_of c d c (has_super raw c d is) below
+])

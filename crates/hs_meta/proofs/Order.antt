@@ -1,6 +1,6 @@
 -- A class that is below another has a higher rank.
-use Rattle.std.proofs.Common.{ℕ, zero, suc, ◌+◌, ◌<◌, ◌≤◌, ◌≡◌, ◌⊎◌, inl, inr, List, [], ◌∷◌, Bool, true, false, not, cond, map, length, get_or, slice_get, Option, Some, None, IsSomeAnd, refl, ap, sym, ◌∙◌, subst, arith}
-use Rattle.std.proofs.lemmas.Bool.{false≢true, true≢false, both_ways, cases_lt}
+use Rattle.std.proofs.Common.{ℕ, zero, suc, ◌<◌, ◌≤◌, ◌≡◌, inl, inr, List, [], ◌∷◌, Bool, true, false, not, cond, length, get_or, Option, IsSomeAnd, refl, ap, sym, ◌∙◌, subst, arith}
+use Rattle.std.proofs.lemmas.Bool.{false≢true, true≢false, cases_lt}
 use Rattle.std.proofs.lemmas.List.{get_or-map, get_or_past, length-map}
 use Rattle.std.proofs.lemmas.List.FromFn.{get_or-map-range_with_len, length-map-range_with_len}
 use Rattle.std.proofs.lemmas.List.Sums.{sum_by-cons, count_by-le-length}
@@ -67,9 +67,9 @@ StandWithin supers = (c s : ℕ) → has (get_or supers c []) s ≡ true → s <
 
 within : (supers : List (List ℕ)) (c s : ℕ) → has (get_or supers c []) s ≡ true → c < length supers
 within supers c s e = elim (cases_lt c (length supers)) [
-    | inl h ↦ h
-    | inr h ↦ absurd (false≢true (sym (ap (λ ns. has ns s) (get_or_past supers c [] h)) ∙ e))
-  ]
+  | inl h ↦ h
+  | inr h ↦ absurd (false≢true (sym (ap (λ ns. has ns s) (get_or_past supers c [] h)) ∙ e))
+]
 
 pub extends_at : (supers : List (List ℕ)) (c s : ℕ) → has (get_or supers c []) s ≡ true → Extends supers c s
 extends_at supers c s e = subst (λ (found : Option (List ℕ)). IsSomeAnd found (λ numbers. has numbers s ≡ true)) (sym (slice_get-get_or supers c [] (within supers c s e))) e
@@ -78,8 +78,8 @@ rises : (supers : List (List ℕ)) → HasNoCycle supers → (c s : ℕ) → c <
 rises supers no_cycle c s low below is =
     let row : ℕ → List Bool = λ d. below_within supers d (length supers) in
     let more : missing (row s) < missing (row c) = fewer (row c) (row s) c (long_row supers c (length supers) ∙ sym (long_row supers s (length supers)))
-        (λ k e. (says_below supers k s).1 (further supers k c s ((says_below supers k c).0 e) (direct c s is)))
-        (no_cycle c low) ((says_below supers c s).1 (direct c s is)) in
+    (λ k e. (says_below supers k s).1 (further supers k c s ((says_below supers k c).0 e) (direct c s is)))
+    (no_cycle c low) ((says_below supers c s).1 (direct c s is)) in
     omega (arith, rank_at supers c low, rank_at supers s below, missing_is (row c), missing_is (row s))
 
 pub ranked : (supers : List (List ℕ)) → StandWithin supers → HasNoCycle supers → AreRanked supers (ranks (rows supers))
@@ -91,5 +91,5 @@ rank_low supers k d h =
     let in_all : k < length supers = let e = length-map (rows supers) (λ row. count_by not row) in omega arith in
     let row = below_within supers k (length supers) in
     let e : get_or (ranks (rows supers)) k d ≡ count_by not row = get_or-map (λ row. count_by not row) (rows supers) k [] d (omega arith)
-        ∙ ap (λ row. count_by not row) (get_or-map-range_with_len (λ d. below_within supers d (length supers)) 0 (length supers) k k [] in_all (omega arith)) in
+    ∙ ap (λ row. count_by not row) (get_or-map-range_with_len (λ d. below_within supers d (length supers)) 0 (length supers) k k [] in_all (omega arith)) in
     omega (arith, e, count_by-le-length not row, long_row supers k (length supers))

@@ -1,6 +1,6 @@
 -- Classes in the order of their ranks, each after its supertypes.
-use Rattle.std.proofs.Common.{ℕ, zero, suc, ◌+◌, ◌<◌, ◌≤◌, ◌≡◌, ◌&&◌, ◌||◌, ◌++◌, List, [], ◌∷◌, Bool, true, false, cond, eqb, nat_lt, get_or, set, map, length, refl, ap, sym, ◌∙◌, arith, inl, inr, if◌then◌else◌}
-use Rattle.std.proofs.lemmas.Bool.{false≢true, cases_eq, eq-eqb, ne_eqb, lt-ltb, le-ltb, ltb-true, or_left, or_right, cond-true, cond-false}
+use Rattle.std.proofs.Common.{ℕ, zero, suc, ◌+◌, ◌<◌, ◌≤◌, ◌≡◌, ◌&&◌, ◌||◌, ◌++◌, List, [], ◌∷◌, true, false, eqb, nat_lt, get_or, set, map, length, refl, ap, sym, ◌∙◌, arith, inl, inr, if◌then◌else◌}
+use Rattle.std.proofs.lemmas.Bool.{cases_eq, eq-eqb, ne_eqb, lt-ltb, or_left, or_right}
 use Rattle.std.proofs.lemmas.Bool.Decides.{nat_tests}
 use Rattle.std.proofs.lemmas.List.{get_or-set_same, get_or-set_other}
 use Rattle.std.proofs.lemmas.List.FromFn.{fill_by_all}
@@ -42,10 +42,10 @@ found_at_start supers own ranks = record {
 
 same_before : (ranks : List ℕ) (rank c k : ℕ) → (k ≡ c → get_or ranks c 0 ≡ rank → ⊥) → comes_before ranks rank c k ≡ comes_before ranks rank (c + 1) k
 same_before ranks rank c k h = elim (cases_eq k c) [
-    | inl same ↦ let e : eqb (get_or ranks k 0) rank ≡ false = ne_eqb (get_or ranks k 0) rank (λ e. h same (ap (λ j. get_or ranks j 0) (sym same) ∙ e)) in
-        ap (λ b. nat_lt (get_or ranks k 0) rank || (b && nat_lt k c)) e ∙ sym (ap (λ b. nat_lt (get_or ranks k 0) rank || (b && nat_lt k (c + 1))) e)
-    | inr apart ↦ let e : nat_lt k c ≡ nat_lt k (c + 1) = grind (arith, nat_tests) in ap (λ b. nat_lt (get_or ranks k 0) rank || (eqb (get_or ranks k 0) rank && b)) e
-  ]
+  | inl same ↦ let e : eqb (get_or ranks k 0) rank ≡ false = ne_eqb (get_or ranks k 0) rank (λ e. h same (ap (λ j. get_or ranks j 0) (sym same) ∙ e)) in
+      ap (λ b. nat_lt (get_or ranks k 0) rank || (b && nat_lt k c)) e ∙ sym (ap (λ b. nat_lt (get_or ranks k 0) rank || (b && nat_lt k (c + 1))) e)
+  | inr apart ↦ let e : nat_lt k c ≡ nat_lt k (c + 1) = grind (arith, nat_tests) in ap (λ b. nat_lt (get_or ranks k 0) rank || (eqb (get_or ranks k 0) rank && b)) e
+]
 
 -- A class of another rank is passed over.
 pub found_passed : (supers own : List (List ℕ)) (ranks : List ℕ) (rank c : ℕ) (made : List (List ℕ)) → (get_or ranks c 0 ≡ rank → ⊥) →

@@ -1,13 +1,11 @@
 -- What it says of classes that there is no fault.
-use Rattle.std.proofs.Common.{ℕ, zero, suc, ◌+◌, ◌*◌, ◌<◌, ◌≤◌, ◌≡◌, ◌++◌, List, [], ◌∷◌, Bool, true, false, not, cond, eqb, nat_lt, length, slice_get, Option, Some, None, is_some, Ok, Err, refl, ap, sym, ◌∙◌, subst, arith, zero-add, length-append, get_or, map, take, if◌then◌else◌}
-use Rattle.std.proofs.lemmas.Bool.{true≢false, ltb-false, not-false, eq-eqb, or_left}
+use Rattle.std.proofs.Common.{ℕ, zero, suc, ◌+◌, ◌≤◌, ◌≡◌, ◌++◌, List, [], ◌∷◌, Bool, true, false, not, eqb, nat_lt, length, slice_get, Some, is_some, Ok, refl, ap, sym, ◌∙◌, arith, zero-add, length-append, get_or, map, take, if◌then◌else◌}
+use Rattle.std.proofs.lemmas.Bool.{ltb-false, not-false, eq-eqb, or_left}
 use Rattle.std.proofs.lemmas.Option.{slice_get-get_or}
 use Rattle.std.proofs.lemmas.List.{length-map}
 use Rattle.std.proofs.lemmas.List.Sums.{sum_by-le}
 use Rattle.std.specs.List.{All, sum_by}
 use Rattle.hs_expr.specs.Verdict.{verdict, each, each_from, fault_if}
-use Rattle.hs_meta.specs.Answers.{Tells}
-use Rattle.hs_meta.specs.declared.fault.ModelFault.{ModelFault}
 use Rattle.hs_meta.specs.declared.fault.ModelFault.TheVariants.{Fault}
 use Rattle.hs_meta.specs.declared.fault.ModelFaultKind.TheVariants as kind
 use Rattle.hs_meta.specs.declared.fault.ModelPlace.TheVariants as place
@@ -121,9 +119,9 @@ own_within classes c class at =
     let names_of : ℕ → RawClass → List (List ℕ) = λ d class. if conforms (supers_of classes) c d then spec.own_names class else [] in
     let itself : conforms (supers_of classes) c c ≡ true = or_left (eqb c c) (is_below (supers_of classes) c c) (eq-eqb c c refl) in
     let own : length (names_of c class) ≡ own_count class = ap (λ b. length (if b then spec.own_names class else [])) itself
-        ∙ length-append (map (λ (a : RawAttribute). a.name) class.attributes) (map (λ (r : RawReference). r.name) class.references)
-        ∙ ap (λ n. n + length (map (λ (r : RawReference). r.name) class.references)) (length-map class.attributes (λ (a : RawAttribute). a.name))
-        ∙ ap (λ n. length class.attributes + n) (length-map class.references (λ (r : RawReference). r.name)) in
+    ∙ length-append (map (λ (a : RawAttribute). a.name) class.attributes) (map (λ (r : RawReference). r.name) class.references)
+    ∙ ap (λ n. n + length (map (λ (r : RawReference). r.name) class.references)) (length-map class.attributes (λ (a : RawAttribute). a.name))
+    ∙ ap (λ n. length class.attributes + n) (length-map class.references (λ (r : RawReference). r.name)) in
     let here : length (names_of (0 + c) class) ≡ length (names_of c class) = ap (λ n. length (names_of n class)) (zero-add c) in
     omega (arith, own, here, found_within names_of 0 classes c class at)
 

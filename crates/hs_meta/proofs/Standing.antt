@@ -30,16 +30,16 @@ named_all_within classes (name ∷ names) s e = go (named_all_within classes nam
     go : (has (filter_map (class_named classes) names) s ≡ true → s < length classes) → (found : Option ℕ) → class_named classes name ≡ found → has (cons_option found (filter_map (class_named classes) names)) s ≡ true → s < length classes
     go later None is e = later e
     go later (Some c) is e = elim (or_cases (eqb s c) (has (filter_map (class_named classes) names) s) e) [
-        | inl same ↦ let low = named_within classes name c is in omega (arith, eqb-true s c same)
-        | inr among ↦ later among
-      ]
+      | inl same ↦ let low = named_within classes name c is in omega (arith, eqb-true s c same)
+      | inr among ↦ later among
+    ]
 
 -- The class with this number.
 pub class_at : (classes : List RawClass) (c : ℕ) → c < length classes → (class : RawClass) × (slice_get classes c ≡ Some class)
 class_at classes c low = elim ((slice_get_cases classes c).1) [
-    | inl found ↦ (found.0, found.2)
-    | inr past ↦ absurd (omega (arith, past.0))
-  ]
+  | inl found ↦ (found.0, found.2)
+  | inr past ↦ absurd (omega (arith, past.0))
+]
 
 pub supers_at : (classes : List RawClass) (c : ℕ) (class : RawClass) → slice_get classes c ≡ Some class → get_or (supers_of classes) c [] ≡ direct_supers classes class
 supers_at classes c class at =
@@ -47,12 +47,12 @@ supers_at classes c class at =
 
 pub stand_within : (classes : List RawClass) → StandWithin (supers_of classes)
 stand_within classes c s e = elim (cases_lt c (length classes)) [
-    | inl low ↦
-        let class = class_at classes c low in
-        let below = named_all_within classes class.0.supers s (sym (ap (λ ns. has ns s) (supers_at classes c class.0 class.1)) ∙ e) in
-        omega (arith, below, length-map classes (direct_supers classes))
-    | inr past ↦ absurd (false≢true (sym (ap (λ ns. has ns s) (get_or_past (supers_of classes) c [] (omega (arith, length-map classes (direct_supers classes))))) ∙ e))
-  ]
+  | inl low ↦
+      let class = class_at classes c low in
+      let below = named_all_within classes class.0.supers s (sym (ap (λ ns. has ns s) (supers_at classes c class.0 class.1)) ∙ e) in
+      omega (arith, below, length-map classes (direct_supers classes))
+  | inr past ↦ absurd (false≢true (sym (ap (λ ns. has ns s) (get_or_past (supers_of classes) c [] (omega (arith, length-map classes (direct_supers classes))))) ∙ e))
+]
 
 pub no_cycle : (classes : List RawClass) → AreSound classes → HasNoCycle (supers_of classes)
 no_cycle classes s c low = let class = class_at classes c (omega (arith, low, length-map classes (direct_supers classes))) in s.no_cycle c class.0 class.1

@@ -66,7 +66,14 @@ fn meta_of(
     for class in classes.into_vec() {
         let number = meta.classes.len();
         let features = features[number].clone()?;
-        add_class(alloc, class, number as ClassNo, features, numbers, &mut meta)?;
+        add_class(
+            alloc,
+            class,
+            number as ClassNo,
+            features,
+            numbers,
+            &mut meta,
+        )?;
     }
     Ok(meta)
 }
@@ -81,9 +88,11 @@ fn add_class(
     meta: &mut Metamodel,
 ) -> Result<(), AllocError>
     ensures { (classes : List RawClass) → KnowsClasses numbers.now classes
-        → OnOk result (meta.new ≡ record { format = meta.old.format;
-            classes = meta.old.classes ++ (record { name = class.name; is_abstract = class.is_abstract; supers = spec.direct_supers classes class; features = features }) ∷ [];
-            features = meta.old.features ++ spec.own_features classes number class }) }
+        → OnOk result (meta.new ≡ record {
+          format = meta.old.format;
+          classes = meta.old.classes ++ (record { name = class.name; is_abstract = class.is_abstract; supers = spec.direct_supers classes class; features = features }) ∷ [];
+          features = meta.old.features ++ spec.own_features classes number class;
+        }) }
 {
     let RawClass {
         name,
@@ -99,7 +108,14 @@ fn add_class(
         supers,
         features,
     })?;
-    add_features(alloc, number, attributes, references, numbers, &mut meta.features)?;
+    add_features(
+        alloc,
+        number,
+        attributes,
+        references,
+        numbers,
+        &mut meta.features,
+    )?;
     Ok(())
 }
 

@@ -6,11 +6,10 @@ ghost use Rattle.hs_meta.specs.Faults as spec;
 ghost use Rattle.hs_types.specs.Supertypes.{rows as rows_for};
 ghost use Rattle.hs_meta.specs.Supertypes as supertypes;
 
-use crate::declared;
 use crate::fault::ModelFault;
-use crate::inherited;
 use crate::raw::RawClass;
 use crate::supers::supers_of;
+use crate::{declared, inherited};
 use hs_expr::List;
 use hs_types::rows_below;
 use std::alloc::Global;

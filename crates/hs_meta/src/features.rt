@@ -14,10 +14,7 @@ use hs_types::FeatureNo;
 use std::alloc::{AllocError, Global};
 
 /// The numbers of the features that each class owns.
-pub fn own_numbers(
-    alloc: Global,
-    classes: &[RawClass],
-) -> Result<List<List<FeatureNo>>, AllocError>
+pub fn own_numbers(alloc: Global, classes: &[RawClass]) -> Result<List<List<FeatureNo>>, AllocError>
     requires { sum_by meaning.own_count classes.now ≤ 65536 }
     ensures { IfOk result (λ own. own ≡ meaning.own_numbers classes.now) }
 {
@@ -33,11 +30,7 @@ pub fn own_numbers(
 
 /// So many numbers from the first on.
 #[tactic(auto, using(crate::proofs::Rowed::one_number_more))]
-fn numbers_from(
-    alloc: Global,
-    first: usize,
-    count: usize,
-) -> Result<List<FeatureNo>, AllocError>
+fn numbers_from(alloc: Global, first: usize, count: usize) -> Result<List<FeatureNo>, AllocError>
     requires { first + count ≤ 65536 }
     ensures { IfOk result (λ numbers. numbers ≡ range_with_len first count) }
 {

@@ -50,7 +50,7 @@ pub fn features_differ(
 {
     for (c, _) in classes.iter().enumerate() {
         let names = feature_names(alloc, classes, rows, c)?;
-        if !differ(names.as_slice()) {
+        if !differ(alloc, names)? {
             return Err(ModelFault::Fault {
                 place: ModelPlace::Class { class: c },
                 kind: ModelFaultKind::Twice,

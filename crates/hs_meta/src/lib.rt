@@ -3,10 +3,11 @@
 #![tactic(auto)]
 
 ghost use Rattle.std.specs.Prelude.{◌≡◌, true, IfOk};
+ghost use Rattle.hs_types.specs.Limits.{IsSmallMeta};
+ghost use Rattle.hs_types.specs.Metamodel.{IsMeta, supers_are_classes};
 ghost use Rattle.hs_meta.specs.Answers.{Builds, Tells};
 ghost use Rattle.hs_meta.specs.Faults as spec;
 ghost use Rattle.hs_meta.specs.Meaning.{meant};
-ghost use Rattle.hs_types.specs.Metamodel.{supers_are_classes};
 
 use hs_types::{Meta, Metamodel};
 use std::alloc::{AllocError, Global};
@@ -34,7 +35,9 @@ pub use raw::{RawAttribute, RawClass, RawDefault, RawMeta, RawReference};
 /// The metamodel of what is written, where that is free of faults, and else the first fault of the
 /// ten checks, each over the classes in order.
 pub fn build(alloc: Global, raw: RawMeta) -> Result<Meta, ModelFault>
-    ensures { Builds result (spec.faults raw.classes) (meant raw) }
+    ensures built { Builds result (spec.faults raw.classes) (meant raw) }
+    ensures whole { IfOk result IsMeta }
+    ensures small { IfOk result IsSmallMeta }
 {
     let supers = checking::checked(alloc, raw.classes.as_slice())?;
     let plain = building::built(alloc, raw, &supers)?;

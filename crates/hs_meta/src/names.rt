@@ -1,13 +1,14 @@
 //! Names as they are written, and what they stand for.
 
-ghost use Rattle.std.specs.Prelude.{◌≡◌, length};
-ghost use Rattle.std.specs.List.{list_all, list_any};
-ghost use Rattle.hs_types.specs.Lists.{same_text};
+ghost use Rattle.std.specs.Prelude.{◌≡◌, IfOk};
+ghost use Rattle.std.specs.List.{list_all};
 ghost use Rattle.hs_meta.specs.Names as spec;
 
 use crate::raw::RawClass;
-use hs_expr::Text;
+use hs_expr::{List, Text};
 use hs_types::DataType;
+use std::alloc::{AllocError, Global};
+use std::collections::BTreeSet;
 
 /// The most bytes of a name.
 const MOST_BYTES: usize = 64;
@@ -68,21 +69,15 @@ pub fn data_type_named(name: &Text) -> Option<DataType>
 }
 
 /// Whether no text comes twice.
-pub fn differ(texts: &[Text]) -> bool
-    ensures { result ≡ spec.differ texts.now }
+pub fn differ(alloc: Global, texts: List<Text>) -> Result<bool, AllocError>
+    ensures { IfOk result (λ apart. apart ≡ spec.differ texts) }
 {
-    let mut left = texts;
-    while let [first, rest @ ..] = left {
-        if is_among(rest, first) {
-            return false;
+    let mut seen = BTreeSet::new(alloc);
+    for text in texts.into_vec() {
+        let is_new = seen.insert(text.into_string())?;
+        if !is_new {
+            return Ok(false);
         }
-        left = rest;
     }
-    true
-}
-
-fn is_among(texts: &[Text], text: &Text) -> bool
-    ensures { result ≡ list_any (same_text text.now) texts.now }
-{
-    texts.iter().any(|other| *text == *other)
+    Ok(true)
 }

@@ -1,8 +1,9 @@
 use crate::{
     ModelFault, ModelFaultKind, ModelPlace, RawAttribute, RawClass, RawDefault, RawMeta,
-    RawReference, check,
+    RawReference, build, check,
 };
 use hs_expr::{List, Text, Value};
+use hs_types::{Class, FeatureKind, Meta};
 use std::alloc::{AllocError, Global};
 use std::test::Fail;
 
@@ -74,7 +75,10 @@ fn classes(alloc: Global, text: &str) -> Result<List<RawClass>, AllocError> {
 }
 
 fn answer(alloc: Global, classes: List<RawClass>) -> Result<(), ModelFault> {
-    check(alloc, &RawMeta { format: 1, classes })
+    let raw = RawMeta { format: 1, classes };
+    check(alloc, &raw)?;
+    build(alloc, raw)?;
+    Ok(())
 }
 
 fn answer_to(alloc: Global, text: &str) -> Result<(), ModelFault> {
@@ -377,4 +381,146 @@ fn limits_are_kept(rt: HostRuntime) {
     assert!(rt; is_told(inherited, ModelPlace::Class { class: 1 }, limit));
     let own = many_attributes(alloc, 65, "B");
     assert!(rt; is_told(own, ModelPlace::Class { class: 0 }, limit));
+}
+
+fn built(alloc: Global, text: &str) -> Result<Meta, ModelFault> {
+    let classes = classes(alloc, text)?;
+    build(alloc, RawMeta { format: 1, classes })
+}
+
+/// The names of a class's features, each behind a point.
+fn features_shown(alloc: Global, meta: &Meta, class: &Class) -> Result<String, AllocError> {
+    let mut shown = String::from_str(alloc, class.name.as_str())?;
+    for number in class.features.as_slice() {
+        if let Some(feature) = meta.plain().features.get(usize::from(*number)) {
+            shown.push_str(".")?;
+            shown.push_str(feature.name.as_str())?;
+        }
+    }
+    Ok(shown)
+}
+
+/// Each class with its features, in the form that classes are written in.
+fn shown(alloc: Global, meta: &Meta) -> Result<String, AllocError> {
+    let mut shown = String::new(alloc);
+    for class in meta.plain().classes.as_slice() {
+        shown.push_str(" ")?;
+        shown.push_str(features_shown(alloc, meta, class)?.as_str())?;
+    }
+    Ok(shown)
+}
+
+#[test]
+fn inherited_features_come_first(rt: HostRuntime) -> Result<(), Fail> {
+    let alloc = rt.alloc();
+    for (text, want) in [
+        ("A.x B.y:A C.z:A D.u:B,C", " A.x B.x.y C.x.z D.x.y.z.u"),
+        ("D.u:C,B B.y:A C.z:A A.x", " D.x.z.y.u B.x.y C.x.z A.x"),
+        ("A.x B.y:A C.z:A,B", " A.x B.x.y C.x.y.z"),
+        ("A.x B.y C:B,A", " A.x B.y C.y.x"),
+        ("A.x B:A,A C:B,A", " A.x B.x C.x"),
+        ("C.c:B B.b:A A.a", " C.a.b.c B.a.b A.a"),
+        ("A B:A", " A B"),
+    ] {
+        let meta = built(alloc, text)?;
+        assert_eq!(rt; shown(alloc, &meta)?.as_str(), want, "{text}");
+    }
+    Ok(())
+}
+
+#[test]
+fn faults_are_told_of_what_is_built(rt: HostRuntime) {
+    let answer = match built(rt.alloc(), "A.x B.x C:A,B") {
+        Ok(_) => Ok(()),
+        Err(fault) => Err(fault),
+    };
+    assert!(rt;
+        is_told(
+            answer,
+            ModelPlace::Class { class: 2 },
+            ModelFaultKind::Twice
+        )
+    );
+}
+
+/// What an attribute that is written so has where nothing is given.
+fn built_default(
+    alloc: Global,
+    data_type: &str,
+    default: RawDefault,
+) -> Result<Option<Value>, ModelFault> {
+    let mut class = empty_class(alloc, "A")?;
+    class
+        .attributes
+        .push(attribute(alloc, "x", data_type, default)?)?;
+    let mut classes = List::new(alloc);
+    classes.push(class)?;
+    let meta = build(alloc, RawMeta { format: 1, classes })?;
+    match meta.plain().features.get(0) {
+        Some(feature) => match &feature.kind {
+            FeatureKind::Attribute { default, .. } => Ok(Some(default.clone()?)),
+            FeatureKind::Reference { .. } => Ok(None),
+        },
+        None => Ok(None),
+    }
+}
+
+#[test]
+fn defaults_are_built(rt: HostRuntime) -> Result<(), Fail> {
+    let alloc = rt.alloc();
+    let empty = Value::Text(Text::from_str(alloc, "")?);
+    for (data_type, want) in [
+        ("EInt", &Value::Int(0)),
+        ("ELong", &Value::Int(0)),
+        ("EBoolean", &Value::Bool(false)),
+        ("EString", &empty),
+    ] {
+        let made = built_default(alloc, data_type, RawDefault::LeftOut)?;
+        assert!(rt; made.as_ref() == Some(want), "{data_type}");
+    }
+    let given = built_default(alloc, "ELong", number(-7))?;
+    assert!(rt; given == Some(Value::Int(-7)));
+    let given = built_default(alloc, "EBoolean", truth(true))?;
+    assert!(rt; given == Some(Value::Bool(true)));
+    Ok(())
+}
+
+/// The bounds of a reference that is written with these.
+fn built_bounds(
+    alloc: Global,
+    lower: i64,
+    upper: i64,
+) -> Result<Option<(u64, Option<u64>)>, ModelFault> {
+    let mut class = empty_class(alloc, "A")?;
+    class
+        .references
+        .push(reference(alloc, "r", "A", lower, upper)?)?;
+    let mut classes = List::new(alloc);
+    classes.push(class)?;
+    let meta = build(alloc, RawMeta { format: 1, classes })?;
+    match meta.plain().features.get(0) {
+        Some(feature) => match &feature.kind {
+            FeatureKind::Reference { lower, upper, .. } => Ok(Some((*lower, *upper))),
+            FeatureKind::Attribute { .. } => Ok(None),
+        },
+        None => Ok(None),
+    }
+}
+
+#[test]
+fn bounds_are_built(rt: HostRuntime) -> Result<(), Fail> {
+    for (lower, upper, want) in [
+        (0, 1, (0, Some(1))),
+        (2, 5, (2, Some(5))),
+        (3, -1, (3, None)),
+        (
+            i64::MAX,
+            i64::MAX,
+            (9_223_372_036_854_775_807, Some(9_223_372_036_854_775_807)),
+        ),
+    ] {
+        let made = built_bounds(rt.alloc(), lower, upper)?;
+        assert!(rt; made == Some(want), "{lower} {upper}");
+    }
+    Ok(())
 }

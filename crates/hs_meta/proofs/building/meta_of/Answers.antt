@@ -25,11 +25,11 @@ loop-class-preserved c =
     let wide : length c.args.features.now ≡ length c.args.classes = ap length c.requires.found ∙ length-map-range_with_len (spec.features_at c.args.classes) 0 (length c.args.classes) in
     let number : c.len-number.result < length c.args.classes = omega (arith, c.len-number.ensures) in
     let found : c.in_ok-features.features ≡ spec.features_at c.args.classes (length m.classes) =
-        c.in_ok-features.ensures.cases
-        ∙ get_or_read c.args.features.now c.len-number.result c.index-features-number.result (omega arith) c.index-features-number.is []
-        ∙ ap (λ (ls : List (List ℕ)). get_or ls c.len-number.result []) c.requires.found
-        ∙ get_or-map-range_with_len (spec.features_at c.args.classes) 0 (length c.args.classes) c.len-number.result c.len-number.result [] (omega arith) (omega arith)
-        ∙ ap (spec.features_at c.args.classes) c.len-number.ensures in
+    c.in_ok-features.ensures.cases
+    ∙ get_or_read c.args.features.now c.len-number.result c.index-features-number.result (omega arith) c.index-features-number.is []
+    ∙ ap (λ (ls : List (List ℕ)). get_or ls c.len-number.result []) c.requires.found
+    ∙ get_or-map-range_with_len (spec.features_at c.args.classes) 0 (length c.args.classes) c.len-number.result c.len-number.result [] (omega arith) (omega arith)
+    ∙ ap (spec.features_at c.args.classes) c.len-number.ensures in
     let more : length new.classes ≡ length m.classes + 1 = ap (λ (m : Metamodel). length m.classes) done ∙ length_push m.classes _ in
     record {
       format = ap (λ (m : Metamodel). m.format) done ∙ c.loop-class.invariant.format;
