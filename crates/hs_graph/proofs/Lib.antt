@@ -7,3 +7,4 @@ pub mod Told
 pub mod Hash
 pub mod Clean
 pub mod Slots
+pub mod Opening

@@ -20,6 +20,7 @@ mod classes;
 mod edges;
 mod examples;
 mod fault;
+mod laws;
 mod lookups;
 mod names;
 mod numbers;
@@ -34,6 +35,7 @@ use crate::fault::{fault, told};
 use crate::numbers::Named;
 pub use examples::{meanings, namings, wrongs};
 pub use fault::{GraphFault, GraphFaultKind, GraphPlace};
+pub use laws::{graphs_are_opening, graphs_are_small};
 pub use raw::{RawAttr, RawObject, RawRef, RawValue};
 
 /// The most objects.
