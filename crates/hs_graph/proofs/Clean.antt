@@ -1,5 +1,5 @@
 -- What is so where there is no fault.
-use Rattle.std.proofs.Common.{ℕ, zero, suc, ◌+◌, ◌<◌, ◌≤◌, ◌≡◌, ◌++◌, List, [], ◌∷◌, Bool, true, false, cond, not, map, length, take, nat_lt, Option, Some, None, IsSomeAnd, is_some, slice_get, refl, ap, sym, ◌∙◌, subst, arith, rules, add-zero, zero-add}
+use Rattle.std.proofs.Common.{ℕ, zero, suc, ◌+◌, ◌<◌, ◌≤◌, ◌≡◌, ◌++◌, List, [], ◌∷◌, Bool, true, false, cond, not, length, take, nat_lt, Option, Some, None, IsSomeAnd, is_some, slice_get, refl, ap, sym, ◌∙◌, subst, arith, rules, add-zero, zero-add}
 use Rattle.std.specs.List.{position, position_or_len}
 use Rattle.std.specs.Option.{option_map_or}
 use Rattle.std.proofs.lemmas.Bool.{ltb-true}
@@ -8,7 +8,7 @@ use Rattle.hs_expr.specs.Verdict.{each, each_from, fault_if}
 use Rattle.hs_types.specs.declared.meta.Class.{Class}
 use Rattle.hs_types.specs.declared.meta.Metamodel.{Metamodel}
 use Rattle.hs_types.specs.Lists.{same_text}
-use Rattle.hs_types.specs.Metamodel.{class_at, IsConcrete}
+use Rattle.hs_types.specs.Metamodel.{IsConcrete}
 use Rattle.hs_graph.specs.declared.raw.RawAttr.{RawAttr}
 use Rattle.hs_graph.specs.declared.raw.RawObject.{RawObject}
 use Rattle.hs_graph.specs.declared.raw.RawRef.{RawRef}
@@ -59,7 +59,7 @@ concrete-from : (m : Metamodel) (c : ℕ) → c < length m.classes → is_abstra
 concrete-from m c h e =
     let found = item_within m.classes c h in
     subst (λ (o : Option Class). IsSomeAnd o (λ class. class.is_abstract ≡ false)) (sym found.1)
-        (sym (ap (λ (o : Option Class). option_map_or (λ class. class.is_abstract) o false) found.1) ∙ e)
+    (sym (ap (λ (o : Option Class). option_map_or (λ class. class.is_abstract) o false) found.1) ∙ e)
 
 class-concrete : (m : Metamodel) (i : ℕ) (object : RawObject) → class_faults_at m i object ≡ [] → IsConcrete m (class_of m object)
 class-concrete m i object e = go (class_named m object.class) refl

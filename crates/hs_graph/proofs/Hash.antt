@@ -1,5 +1,5 @@
 -- Names `#k` and the numbers that they count.
-use Rattle.std.proofs.Common.{ℕ, zero, suc, ◌+◌, ◌-◌, ◌*◌, ◌/◌, ◌%◌, ◌<◌, ◌≤◌, ◌≡◌, ◌&&◌, ◌++◌, ◌==◌, List, [], ◌∷◌, Bool, true, false, not, map, length, get_or, nat_le, Option, Some, None, refl, ap, sym, ◌∙◌, subst, arith, rules, append-nil, append_assoc, if◌then◌else◌}
+use Rattle.std.proofs.Common.{ℕ, zero, suc, ◌+◌, ◌-◌, ◌*◌, ◌/◌, ◌%◌, ◌<◌, ◌≤◌, ◌≡◌, ◌&&◌, ◌++◌, ◌==◌, List, [], ◌∷◌, Bool, true, false, not, map, get_or, Some, None, refl, ap, sym, ◌∙◌, subst, arith, rules, append-nil, append_assoc, if◌then◌else◌}
 use Rattle.std.proofs.lemmas.Bool.{false≢true, and_parts}
 use Rattle.std.proofs.lemmas.Int.Digits.{all_below_base_digits_of, digits_of_step, first_digits_of, number_digits_of}
 use Rattle.std.proofs.lemmas.Option.{none-some, same_Some}
@@ -43,10 +43,10 @@ number-of_hash zero = refl
 number-of_hash (suc k) =
     let ds = digits_of 10 (suc k) in
     counted (map (λ d. 48 + d) ds) (suc k)
-        (both (begins_decimal (map (λ d. 48 + d) ds)) (list_all is_digit (map (λ d. 48 + d) ds))
-            (begins-shown ds (first_digits_of 10 (suc k) (omega arith) (omega arith)))
-            (digits-shown ds (all_below_base_digits_of 10 (suc k) (omega arith))))
-        (number-shown 0 ds ∙ number_digits_of 10 (suc k) (omega arith))
+    (both (begins_decimal (map (λ d. 48 + d) ds)) (list_all is_digit (map (λ d. 48 + d) ds))
+    (begins-shown ds (first_digits_of 10 (suc k) (omega arith) (omega arith)))
+    (digits-shown ds (all_below_base_digits_of 10 (suc k) (omega arith))))
+    (number-shown 0 ds ∙ number_digits_of 10 (suc k) (omega arith))
 
 -- ---- from a name to its number and back
 
@@ -100,7 +100,7 @@ written-positive d bs h all =
     let pos : 0 < first = omega (arith, h) in
     let grows = number-grows first bs in
     let digits : digits_of 10 (number_after first bs) ≡ map (λ b. b - 48) (d ∷ bs) =
-        digits-written first bs pos parts.1 ∙ ap (λ ds. ds ++ map (λ b. b - 48) bs) (digits-more 0 (d - 48) (omega (arith, bounds.0, bounds.1)) pos) in
+    digits-written first bs pos parts.1 ∙ ap (λ ds. ds ++ map (λ b. b - 48) bs) (digits-more 0 (d - 48) (omega (arith, bounds.0, bounds.1)) pos) in
     ap (λ ds. 35 ∷ ds) (sym (shown-again (d ∷ bs) all) ∙ ap (map (λ d. 48 + d)) (sym digits))
     ∙ sym (hash-positive (number_after first bs) (omega (arith, pos, grows)))
 

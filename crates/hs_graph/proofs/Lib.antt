@@ -8,3 +8,4 @@ pub mod Hash
 pub mod Clean
 pub mod Slots
 pub mod Opening
+pub mod Inside

@@ -1,7 +1,7 @@
 -- The graph that written objects mean, where they have no fault, is one from which a journal begins.
-use Rattle.std.proofs.Common.{◌≡◌, ◌≤◌, ◌<◌, ◌+◌, ◌++◌, ◌||◌, ◌⊎◌, inl, inr, ℕ, zero, suc, List, [], ◌∷◌, Bool, true, false, cond, eqb, map, max, length, take, Option, Some, None, IsSomeAnd, is_some, slice_get, refl, ap, sym, ◌∙◌, subst, arith, append_assoc, length-append, add-zero, zero-add}
+use Rattle.std.proofs.Common.{◌≡◌, ◌≤◌, ◌<◌, ◌+◌, ◌++◌, ◌||◌, ◌⊎◌, inl, inr, ℕ, zero, suc, List, [], ◌∷◌, Bool, true, false, eqb, map, max, length, take, Option, Some, None, IsSomeAnd, slice_get, refl, ap, sym, ◌∙◌, subst, arith, append_assoc, length-append, add-zero, zero-add}
 use Rattle.std.specs.List.{All, Any, find, flat_map, list_any, position_or_len, range_with_len}
-use Rattle.std.specs.Option.{option_map, option_map_or, option_and_then, unwrap_or}
+use Rattle.std.specs.Option.{option_map, option_map_or, unwrap_or}
 use Rattle.std.proofs.Math.Nat.{le_refl}
 use Rattle.std.proofs.lemmas.Bool.{both_ways, eq-eqb, eqb-true, ne_eqb, false≢true}
 use Rattle.std.proofs.lemmas.Int.{clamps}
@@ -11,8 +11,6 @@ use Rattle.std.proofs.lemmas.Slice.Eq.{bytes_eq-Decides}
 use Rattle.hs_types.specs.declared.graph.Edge.{Edge}
 use Rattle.hs_types.specs.declared.graph.Graph.{Graph}
 use Rattle.hs_types.specs.declared.graph.Object.{Object}
-use Rattle.hs_types.specs.declared.graph.Slot.{Slot}
-use Rattle.hs_types.specs.declared.meta.Class.{Class}
 use Rattle.hs_types.specs.declared.meta.Metamodel.{Metamodel}
 use Rattle.hs_types.specs.Lists.{Differ, EachPair, Rise, has, same_text}
 use Rattle.hs_types.specs.Metamodel.{Conforms, IsMeta, feature_at, features_of, target_of}
@@ -24,14 +22,13 @@ use Rattle.hs_graph.specs.declared.raw.RawRef.{RawRef}
 use Rattle.hs_graph.specs.Faults.{both_conform, faults, leads_to, reach_faults, ref_faults_at, target_faults_at, targets_faults}
 use Rattle.hs_graph.specs.Links.{all_links, link_of, links_from, links_of, targets_at}
 use Rattle.hs_graph.specs.Lookups.{class_of, classes_of, is_reference, is_reference_named, object_names, place_of, reference_named}
-use Rattle.hs_graph.specs.Meaning.{edges_from, meant, next_name, object_of, objects_from, slots_of}
+use Rattle.hs_graph.specs.Meaning.{edges_from, meant, next_name, object_of, objects_from}
 use Rattle.hs_graph.specs.Names.{hash_number, next_after}
 use Rattle.hs_graph.proofs.Clean.{Clean, clean, clean_at, no_test, not_false, some-not_none}
 use Rattle.hs_graph.proofs.Conformance.{conforms_to}
 use Rattle.hs_graph.proofs.Hash.{name-of_hash, number-of_hash}
-use Rattle.hs_graph.proofs.Lists.{length-mapped}
 use Rattle.hs_graph.proofs.Places.{is_some-position}
-use Rattle.hs_graph.proofs.Slots.{All-at, Found, features-named, found, has-at, same_feature, slots-sound, slots-whole}
+use Rattle.hs_graph.proofs.Slots.{features-named, found, has-at, same_feature, slots-sound, slots-whole}
 
 -- ---- objects
 
@@ -214,7 +211,7 @@ joins-feature m ws g n class f refs meta is has_f h fine = go (find (λ (ref : R
             let same : k ≡ f = same_feature m class is_reference ref.name k f meta (has-at (features_of m class) there.place k there.at) h there.passes passes in
             let clean_targets = clean_at (target_faults_at m (object_names ws) (classes_of m ws) k n r) ref.targets (sym (ap (targets_faults m (object_names ws) (classes_of m ws) n r ref.targets) at) ∙ none) in
             joins-targets m ws g n f n r ref.targets is has_f
-                (λ t name stands_at. subst (λ i. IsSomeAnd (target_of m i) (λ class. IsOf m g class (unwrap_or (place_of (object_names ws) name) 0))) same (target-joins m ws g k n r t name is (clean_targets t name stands_at)))
+            (λ t name stands_at. subst (λ i. IsSomeAnd (target_of m i) (λ class. IsOf m g class (unwrap_or (place_of (object_names ws) name) 0))) same (target-joins m ws g k n r t name is (clean_targets t name stands_at)))
 
 joins-features : (m : Metamodel) (ws : List RawObject) (g : Graph) (n : ℕ) (ts : ℕ → List (List ℕ)) (fs : List ℕ) → ((f : ℕ) → has fs f ≡ true → All (Joins m g) (map (link_of (object_names ws) n f) (ts f))) →
     All (Joins m g) (flat_map (λ f. map (link_of (object_names ws) n f) (ts f)) fs)
@@ -240,7 +237,7 @@ joins-links m ws g n (v ∷ vs) meta c is at =
     let here = first_stands n v vs ws at in
     All-append (Joins m g) (links_of m (object_names ws) n (class_of m v) v.refs) (links_from m (object_names ws) (n + 1) vs)
     (joins-features m ws g n (targets_at m v.refs) (features_of m (class_of m v))
-        (λ f t. joins-feature m ws g n (class_of m v) f v.refs meta is (stands m ws g (λ k. has (features_of m k) f ≡ true) n v is here t) t (c.refs n v here)))
+    (λ f t. joins-feature m ws g n (class_of m v) f v.refs meta is (stands m ws g (λ k. has (features_of m k) f ≡ true) n v is here t) t (c.refs n v here)))
     (joins-links m ws g (n + 1) vs meta c is (next_stand n v vs ws at))
 
 weaker : {A : Type 0} (P Q : A → Type 0) (xs : List A) → ((x : A) → P x → Q x) → All P xs → All Q xs

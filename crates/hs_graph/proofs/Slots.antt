@@ -1,20 +1,19 @@
 -- Slots of what is written fit their attributes.
-use Rattle.std.proofs.Common.{ℕ, zero, suc, ◌<◌, ◌≡◌, ◌&&◌, ◌||◌, List, [], ◌∷◌, Bool, true, false, cond, eqb, map, length, not, Option, Some, None, IsSomeAnd, is_some, slice_get, refl, ap, sym, ◌∙◌, subst, arith}
-use Rattle.std.specs.List.{All, cons_option, filter, filter_map, find}
+use Rattle.std.proofs.Common.{ℕ, zero, suc, ◌≡◌, ◌&&◌, ◌||◌, List, [], ◌∷◌, Bool, true, false, cond, eqb, map, not, Option, Some, None, is_some, slice_get, refl, ap, sym, ◌∙◌, subst}
+use Rattle.std.specs.List.{All, filter, filter_map, find}
 use Rattle.std.specs.Option.{option_and_then, option_map, option_map_or, unwrap_or}
-use Rattle.std.proofs.lemmas.Bool.{and_parts, eqb-true, eq-eqb, false≢true, ne_eqb}
+use Rattle.std.proofs.lemmas.Bool.{and_parts, eqb-true, eq-eqb, false≢true}
 use Rattle.std.proofs.lemmas.List.Elements.{All-nil, All-cons, All-head, All-tail}
 use Rattle.std.proofs.lemmas.Option.{none-some, same_Some, get_or_from_slice_get, slice_get_within}
 use Rattle.std.proofs.lemmas.Slice.Eq.{bytes_eq-Decides}
 use Rattle.hs_expr.specs.declared.value.Value.{Value}
 use Rattle.hs_types.specs.declared.graph.Slot.{Slot}
 use Rattle.hs_types.specs.declared.meta.Class.{Class}
-use Rattle.hs_types.specs.declared.meta.DataType.{DataType}
 use Rattle.hs_types.specs.declared.meta.Feature.{Feature}
 use Rattle.hs_types.specs.declared.meta.FeatureKind.{FeatureKind}
 use Rattle.hs_types.specs.declared.meta.FeatureKind.TheVariants.{Attribute, Reference}
 use Rattle.hs_types.specs.declared.meta.Metamodel.{Metamodel}
-use Rattle.hs_types.specs.Lists.{Differ, EachPair, has, same_text}
+use Rattle.hs_types.specs.Lists.{Differ, has, same_text}
 use Rattle.hs_types.specs.Metamodel.{FeatureFits, IsMeta, attributes_of, class_at, default_of, default_of_kind, feature_at, features_of, fits, is_attribute, is_of_type, type_of, type_of_kind}
 use Rattle.hs_graph.specs.declared.raw.RawAttr.{RawAttr}
 use Rattle.hs_graph.specs.declared.raw.RawValue.{RawValue}

@@ -25,6 +25,7 @@ mod lookups;
 mod names;
 mod numbers;
 mod objects;
+mod problem;
 mod raw;
 mod refs;
 #[cfg(test)]
@@ -33,9 +34,10 @@ mod values;
 
 use crate::fault::{fault, told};
 use crate::numbers::Named;
-pub use examples::{meanings, namings, wrongs};
+pub use examples::{meanings, namings, problems, wrongs};
 pub use fault::{GraphFault, GraphFaultKind, GraphPlace};
-pub use laws::{graphs_are_opening, graphs_are_small};
+pub use laws::{cycles_are_reached, graphs_are_opening, graphs_are_small};
+pub use problem::{Problem, ProblemKind};
 pub use raw::{RawAttr, RawObject, RawRef, RawValue};
 
 /// The most objects.
