@@ -95,7 +95,12 @@ fn wants_classes_for_supertypes(rt: HostRuntime) -> Result<(), AllocError> {
 }
 
 fn sample_graph(alloc: Global) -> Result<Graph, AllocError> {
-    let slots = List::from_vec(vec![in alloc; Slot { attribute: 2, value: Value::Int(7) }]?);
+    let slots = List::from_vec(vec![in alloc;
+        Slot {
+            attribute: 2,
+            value: Value::Int(7)
+        },
+    ]?);
     let first = Object {
         number: 3,
         name: Text::from_str(alloc, "first")?,

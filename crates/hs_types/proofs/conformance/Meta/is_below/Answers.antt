@@ -8,13 +8,13 @@ pub returns-then-above-len : goal.returns-then-above-len
 returns-then-above-len c =
     let m = c.self.inside.plain in
     let told : (c.is_in_row.result ≡ true) ↔ IsBelow (supers_of m) c.args.class c.args.above =
-        rw (c.is_in_row.ensures, c.as_slice.ensures, c.self.invariant.1) (row_says m c.args.class c.args.above (omega (arith, c.if-above-len.true, c.len.ensures))) in
+    rw (c.is_in_row.ensures, c.as_slice.ensures, c.self.invariant.1) (row_says m c.args.class c.args.above (omega (arith, c.if-above-len.true, c.len.ensures))) in
     rw (← c.self.view_is) told
 
 pub returns-else-above-len : goal.returns-else-above-len
 returns-else-above-len c =
     let m = c.self.inside.plain in
     let none : IsBelow (supers_of m) c.args.class c.args.above → ⊥ =
-        (λ is. let low = below_stands m c.args.class c.args.above c.self.invariant.0 is in omega (arith, c.if-above-len.false, c.len.ensures, low)) in
+    (λ is. let low = below_stands m c.args.class c.args.above c.self.invariant.0 is in omega (arith, c.if-above-len.false, c.len.ensures, low)) in
     let so = rw c.self.view_is at none in
     search rules
