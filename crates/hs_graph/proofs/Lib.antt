@@ -4,3 +4,8 @@ pub mod Lists
 pub mod Places
 pub mod Naming
 pub mod Told
+pub mod Hash
+pub mod Clean
+pub mod Slots
+pub mod Opening
+pub mod Inside

@@ -5,3 +5,4 @@ pub mod Faults
 pub mod Meaning
 pub mod Answers
 pub mod Samples
+pub mod Problems

@@ -1,7 +1,9 @@
 -- A small metamodel with written objects, on which the definitions are tried.
-use Rattle.std.specs.Prelude.{ℕ, pos, List, [], ◌∷◌, Bool, true, false, Option, None, codes}
-use Rattle.hs_expr.specs.declared.value.Value.{Value}
+use Rattle.std.specs.Prelude.{ℕ, pos, List, [], ◌∷◌, Bool, true, false, Some, None, codes}
 use Rattle.hs_expr.specs.declared.value.Value.TheVariants as value
+use Rattle.hs_types.specs.declared.graph.Edge.{Edge}
+use Rattle.hs_types.specs.declared.graph.Graph.{Graph}
+use Rattle.hs_types.specs.declared.graph.Object.{Object}
 use Rattle.hs_types.specs.declared.meta.Class.{Class}
 use Rattle.hs_types.specs.declared.meta.DataType.TheVariants.{EInt, EString}
 use Rattle.hs_types.specs.declared.meta.FeatureKind.TheVariants.{Attribute, Reference}
@@ -54,3 +56,31 @@ wrong =
     sample_object (codes "#09") (codes "Account")
     (sample_attr (codes "age") (Given (value.Int (pos 1))) ∷ sample_attr (codes "balance") (Given (value.Int (pos 2147483648))) ∷ sample_attr (codes "name") NoValue ∷ [])
     (sample_ref (codes "accounts") [] ∷ sample_ref (codes "owner") (codes "y" ∷ codes "x" ∷ []) ∷ []) ∷ []
+
+-- Boxes hold boxes, and a box is tied to one other and no more.
+abbrev pub boxes : Metamodel
+boxes = record {
+  format = 1;
+  classes = sample_class (codes "Box") false [] (0 ∷ 1 ∷ []) ∷ [];
+  features =
+      record { owner = 0; name = codes "parts"; kind = Reference 0 true 0 None } ∷
+      record { owner = 0; name = codes "tie"; kind = Reference 0 false 1 (Some 1) } ∷ [];
+}
+
+abbrev pub box : ℕ → List ℕ → Object
+box n name = record { number = n; name = name; class = 0; slots = [] }
+
+abbrev pub sample_edge : ℕ → ℕ → ℕ → ℕ → Edge
+sample_edge n source reference target = record { number = n; source = source; reference = reference; target = target }
+
+-- Box 2 is tied, is in no box and holds box 5; boxes 5 and 7 hold each other; box 7 is tied twice and holds box 9, which isn't tied.
+abbrev pub boxed : Graph
+boxed = record {
+  objects = box 2 (codes "a") ∷ box 5 (codes "b") ∷ box 7 (codes "c") ∷ box 9 (codes "d") ∷ [];
+  edges =
+      sample_edge 0 2 1 2 ∷ sample_edge 1 2 0 5 ∷ sample_edge 2 5 0 7 ∷ sample_edge 3 7 0 5 ∷
+      sample_edge 4 7 1 2 ∷ sample_edge 6 7 1 2 ∷ sample_edge 8 7 0 9 ∷ sample_edge 9 5 1 9 ∷ [];
+  next_object = 10;
+  next_edge = 10;
+  next_name = 0;
+}

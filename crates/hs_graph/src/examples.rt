@@ -7,7 +7,9 @@ ghost use Rattle.hs_graph.specs.declared.fault.GraphPlace.TheVariants as place;
 ghost use Rattle.hs_graph.specs.Faults.{fault, faults};
 ghost use Rattle.hs_graph.specs.Meaning.{meant};
 ghost use Rattle.hs_graph.specs.Names.{is_object_name, next_after};
-ghost use Rattle.hs_graph.specs.Samples.{bank, right, wrong};
+ghost use Rattle.hs_graph.specs.Problems.{problem, problems_of};
+ghost use Rattle.hs_graph.specs.Samples.{bank, boxed, boxes, right, wrong};
+ghost use Rattle.hs_graph.specs.declared.problem.ProblemKind.TheVariants as trouble;
 
 /// Of objects without fault.
 #[tactic(auto, unfolding(crate::specs::Meaning::meant))]
@@ -43,4 +45,13 @@ pub fn namings()
     ensures bare { next_after (codes "#") ≡ 0 }
     ensures signed { next_after (codes "#-1") ≡ 0 }
     ensures empty { is_object_name [] ≡ false }
+{}
+
+/// Of a graph with a problem of each kind: an object that leads to a cycle doesn't lie on it, nor
+/// does one that hangs from it.
+pub fn problems()
+    ensures { problems_of boxes boxed ≡
+        problem 5 trouble.Containers ∷ problem 5 trouble.Cycle
+        ∷ problem 7 (trouble.Upper 1) ∷ problem 7 trouble.Cycle
+        ∷ problem 9 (trouble.Lower 1) ∷ [] }
 {}

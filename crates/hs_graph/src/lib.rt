@@ -20,10 +20,12 @@ mod classes;
 mod edges;
 mod examples;
 mod fault;
+mod laws;
 mod lookups;
 mod names;
 mod numbers;
 mod objects;
+mod problem;
 mod raw;
 mod refs;
 #[cfg(test)]
@@ -32,8 +34,10 @@ mod values;
 
 use crate::fault::{fault, told};
 use crate::numbers::Named;
-pub use examples::{meanings, namings, wrongs};
+pub use examples::{meanings, namings, problems, wrongs};
 pub use fault::{GraphFault, GraphFaultKind, GraphPlace};
+pub use laws::{cycles_are_reached, graphs_are_opening, graphs_are_small};
+pub use problem::{Problem, ProblemKind};
 pub use raw::{RawAttr, RawObject, RawRef, RawValue};
 
 /// The most objects.

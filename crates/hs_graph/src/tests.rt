@@ -348,19 +348,19 @@ fn names_and_texts_have_a_greatest_length(rt: HostRuntime) {
     assert!(rt; is_told(text_of(alloc, 65_537), value, GraphFaultKind::BadValue));
 }
 
-fn many_objects(alloc: Global, count: u32) -> Result<Graph, Failure<GraphFault>> {
+fn many_objects(alloc: Global, count: u32, class: &str) -> Result<Graph, Failure<GraphFault>> {
     let mut objects = List::new(alloc);
     for i in 0..count {
         let name = format!(in alloc; "o{i}")?;
-        objects.push(named(alloc, name.as_str(), "Client")?)?;
+        objects.push(named(alloc, name.as_str(), class)?)?;
     }
     answer(alloc, &objects)
 }
 
-/// An object with as many edges to itself.
-fn many_edges(alloc: Global, count: u32) -> Result<Graph, Failure<GraphFault>> {
+/// An object with as many edges, the first to the object of this name and all others to itself.
+fn many_edges(alloc: Global, count: u32, first: &str) -> Result<Graph, Failure<GraphFault>> {
     let mut made = named(alloc, "a", "Client")?;
-    let mut links = written_ref(alloc, "link", "a")?;
+    let mut links = written_ref(alloc, "link", first)?;
     for _ in 1..count {
         links.targets.push(Text::from_str(alloc, "a")?)?;
     }
@@ -374,10 +374,22 @@ fn many_edges(alloc: Global, count: u32) -> Result<Graph, Failure<GraphFault>> {
 fn limits_are_kept(rt: HostRuntime) {
     let alloc = rt.alloc();
     let limit = GraphFaultKind::Limit;
-    assert!(rt; many_objects(alloc, 200_000).is_ok());
-    assert!(rt; is_told(many_objects(alloc, 200_001), GraphPlace::Graph, limit));
-    assert!(rt; many_edges(alloc, 400_000).is_ok());
-    assert!(rt; is_told(many_edges(alloc, 400_001), GraphPlace::Graph, limit));
+    assert!(rt; many_objects(alloc, 200_000, "Client").is_ok());
+    assert!(rt; is_told(many_objects(alloc, 200_001, "X"), GraphPlace::Graph, limit));
+    assert!(rt; many_edges(alloc, 400_000, "a").is_ok());
+    assert!(rt; is_told(many_edges(alloc, 400_001, "a"), GraphPlace::Graph, limit));
+    let target = GraphPlace::Target {
+        object: 0,
+        number: 0,
+        place: 0,
+    };
+    assert!(rt;
+        is_told(
+            many_edges(alloc, 400_001, "b"),
+            target,
+            GraphFaultKind::UnknownTarget
+        )
+    );
 }
 
 /// The edges of a graph as they are printed: source, reference, target.

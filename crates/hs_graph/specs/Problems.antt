@@ -1,0 +1,80 @@
+-- The problems of a typed graph: references with too few or too many targets, objects with more than one container, and objects that contain themselves.
+use Rattle.std.specs.Prelude.{ℕ, ◌≡◌, List, [], ◌++◌, map, length, Bool, true, false, eqb, nat_lt, ◌&&◌, Option, Some, None}
+use Rattle.std.specs.List.{filter, flat_map, range_with_len}
+use Rattle.std.specs.Option.{option_map_or}
+use Rattle.hs_expr.specs.Verdict.{fault_if}
+use Rattle.hs_types.specs.declared.graph.Graph.{Graph}
+use Rattle.hs_types.specs.declared.graph.Object.{Object}
+use Rattle.hs_types.specs.declared.meta.FeatureKind.{FeatureKind}
+use Rattle.hs_types.specs.declared.meta.FeatureKind.TheVariants.{Attribute, Reference}
+use Rattle.hs_types.specs.declared.meta.Metamodel.{Metamodel}
+use Rattle.hs_types.specs.Lists.{has}
+use Rattle.hs_types.specs.Metamodel.{feature_at, features_of}
+use Rattle.hs_types.specs.Supertypes.{is_below}
+use Rattle.hs_graph.specs.declared.problem.Problem.{Problem}
+use Rattle.hs_graph.specs.declared.problem.ProblemKind.{ProblemKind}
+use Rattle.hs_graph.specs.declared.problem.ProblemKind.TheVariants as kind
+
+abbrev pub problem : ℕ → ProblemKind → Problem
+problem n kind = record { object = n; kind = kind }
+
+-- How many targets object n has at reference f.
+abbrev pub targets_count : Graph → ℕ → ℕ → ℕ
+targets_count g n f = length (filter (λ edge. eqb edge.source n && eqb edge.reference f) g.edges)
+
+abbrev pub is_above : ℕ → Option ℕ → Bool
+is_above count None = false
+is_above count (Some most) = nat_lt most count
+
+-- What is wrong with so many targets of object n at a feature of this kind.
+abbrev pub count_problems : ℕ → ℕ → ℕ → FeatureKind → List Problem
+count_problems n f count (Attribute data_type default) = []
+count_problems n f count (Reference target containment lower upper) =
+    fault_if (nat_lt count lower) (problem n (kind.Lower f)) ++ fault_if (is_above count upper) (problem n (kind.Upper f))
+
+abbrev pub feature_problems : Metamodel → Graph → ℕ → ℕ → List Problem
+feature_problems m g n f = option_map_or (λ feature. count_problems n f (targets_count g n f) feature.kind) (feature_at m f) []
+
+abbrev pub contains_by : FeatureKind → Bool
+contains_by (Attribute data_type default) = false
+contains_by (Reference target containment lower upper) = containment
+
+-- A source of feature f contains its target.
+abbrev pub is_containment : Metamodel → ℕ → Bool
+is_containment m f = option_map_or (λ feature. contains_by feature.kind) (feature_at m f) false
+
+-- How many edges contain object n.
+abbrev pub containers_count : Metamodel → Graph → ℕ → ℕ
+containers_count m g n = length (filter (λ edge. eqb edge.target n && is_containment m edge.reference) g.edges)
+
+-- The objects that object n contains.
+abbrev pub contents_of : Metamodel → Graph → ℕ → List ℕ
+contents_of m g n = map (λ edge. edge.target) (filter (λ edge. eqb edge.source n && is_containment m edge.reference) g.edges)
+
+-- Of each number that an object can have the objects that it contains.
+abbrev pub contents : Metamodel → Graph → List (List ℕ)
+contents m g = map (contents_of m g) (range_with_len 0 g.next_object)
+
+-- Object n contains itself, by one step or more.
+abbrev pub is_in_itself : Metamodel → Graph → ℕ → Bool
+is_in_itself m g n = is_below (contents m g) n n
+
+-- What is wrong with an object: reference by reference in the order of its class, then its containers, then that it contains itself.
+abbrev pub problems_at : Metamodel → Graph → Object → List Problem
+problems_at m g object =
+    flat_map (feature_problems m g object.number) (features_of m object.class)
+    ++ (fault_if (nat_lt 1 (containers_count m g object.number)) (problem object.number kind.Containers)
+    ++ fault_if (is_in_itself m g object.number) (problem object.number kind.Cycle))
+
+-- The problems of all objects, object by object.
+abbrev pub problems_of : Metamodel → Graph → List Problem
+problems_of m g = flat_map (problems_at m g) g.objects
+
+-- Object n contains object k.
+abbrev pub Contains : Metamodel → Graph → ℕ → ℕ → Type 0
+Contains m g n k = has (contents_of m g n) k ≡ true
+
+-- Object k is inside object n: it is contained by n, or by an object inside n.
+pub data IsInside (m : Metamodel) (g : Graph) : ℕ → ℕ → Type 0 where
+  direct : (n k : ℕ) → Contains m g n k → IsInside m g n k
+  by_way_of : (n k l : ℕ) → Contains m g n k → IsInside m g k l → IsInside m g n l
