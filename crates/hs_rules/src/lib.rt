@@ -1,0 +1,17 @@
+//! The faults of rules, over a metamodel.
+//!
+//! A rule is checked pass by pass, and what is told is the first fault in the order of the list that
+//! `specs/Faults.antt` gives. The nodes of a rule and of its blocks are taken as one list
+//! ([`nodes`]), which the passes look into by name.
+#![tactic(auto)]
+
+mod node_map;
+mod nodes;
+mod second_pass;
+mod fault;
+mod first_pass;
+mod known;
+mod names;
+
+pub use nodes::{DeclaredNode, Home};
+pub use fault::{RuleFault, RuleFaultKind};
