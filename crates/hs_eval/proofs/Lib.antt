@@ -1,3 +1,5 @@
+pub mod Depths
+pub mod Kept
 pub mod Piles
 pub mod Resolved
 pub mod Stacks

@@ -1,5 +1,5 @@
 -- What a checked expression is worth, and of what kind.
-use Rattle.std.proofs.Common.{ℕ, ◌≡◌, Bool, true, false, if◌then◌else◌, Option, Some, None, Ok, Err, refl, sym, ap, ap₂, subst, ◌∙◌}
+use Rattle.std.proofs.Common.{ℕ, ◌≡◌, Bool, true, false, Option, Some, None, Ok, Err, refl, sym, ap, ap₂, subst, ◌∙◌}
 use Rattle.std.specs.Option.{option_and_then}
 use Rattle.hs_expr.specs.declared.Expr.{Expr}
 use Rattle.hs_expr.specs.declared.Expr.TheVariants as expr
@@ -8,37 +8,37 @@ use Rattle.hs_expr.specs.declared.Kind.TheVariants as kind
 use Rattle.hs_expr.specs.declared.Name.{Name}
 use Rattle.hs_expr.specs.declared.Piece.{Piece}
 use Rattle.hs_expr.specs.declared.Piece.TheVariants as piece
-use Rattle.hs_expr.specs.declared.Span.{Span}
 use Rattle.hs_expr.specs.declared.Value.TheVariants as value
 use Rattle.hs_expr.specs.Evaluation.{Env, Scope, joined, kind_in, kind_joined, kind_negated, kind_opposite, negated, opposite, value_of}
 use Rattle.hs_expr.proofs.Evaluations.{kind_in-Binary, kind_in-Literal, kind_in-Minus, kind_in-Not, kind_in-Param, kind_in-Slot, value_of-Binary, value_of-Literal, value_of-Minus, value_of-Not, value_of-Param, value_of-Slot}
+use Rattle.hs_expr.specs.Steps.{◌>>=◌, demand, needed}
 use Rattle.hs_text.specs.Trees.{Tree, Leaf, Not, Minus, Binary}
-use Rattle.hs_eval.specs.declared.fault.Wrong.{Wrong}
+use Rattle.hs_eval.specs.declared.fault.ExprFault.{ExprFault}
 use Rattle.hs_eval.specs.declared.fault.Wrong.TheVariants.{NotRead}
-use Rattle.hs_eval.specs.Checking.{Names, Checked, after, attribute_read, checked, found, leaf, param_read, slot_read, wrong_at}
+use Rattle.hs_eval.specs.Checking.{Names, Outcome, attribute_read, checked, leaf, param_read, slot_read, wrong_at}
 use Rattle.hs_eval.specs.Naming.{Agrees, value_by_names}
 
-abbrev well : Expr × Kind → Checked
+abbrev well : Expr × Kind → Outcome
 well x = Ok x
 
 inside : (x y : Expr × Kind) → well x ≡ well y → x ≡ y
 inside x y e = cc
 
--- what was found, and what came of it
-found-ok : {X : Type 0} (o : Option X) (span : Span) (what : Wrong) (next : X → Checked) (r : Expr × Kind) → found o span what next ≡ Ok r →
+-- what two steps came of
+needed-ok : {X : Type 0} (o : Option X) (fault : ExprFault) (next : X → Outcome) (r : Expr × Kind) → (needed o fault >>= next) ≡ Ok r →
     (x : X) × (o ≡ Some x) × (next x ≡ Ok r)
-found-ok None span what next r e = cc
-found-ok (Some x) span what next r e = (x, refl, e)
+needed-ok None fault next r e = cc
+needed-ok (Some x) fault next r e = (x, refl, e)
 
-after-ok : (c : Checked) (next : Expr × Kind → Checked) (r : Expr × Kind) → after c next ≡ Ok r → (x : Expr × Kind) × (c ≡ Ok x) × (next x ≡ Ok r)
-after-ok (Err f) next r e = cc
-after-ok (Ok x) next r e = (x, refl, e)
+steps-ok : (c : Outcome) (next : Expr × Kind → Outcome) (r : Expr × Kind) → (c >>= next) ≡ Ok r → (x : Expr × Kind) × (c ≡ Ok x) × (next x ≡ Ok r)
+steps-ok (Err f) next r e = cc
+steps-ok (Ok x) next r e = (x, refl, e)
 
 -- what a slot that is read was found by
 slot-ok : (names : Names) (owner name : Name) (r : Expr × Kind) → slot_read names owner name ≡ Ok r →
     (n : ℕ × Bool) × (names.node owner.text ≡ Some n) × (attribute_read names n.0 name ≡ Ok r)
-slot-ok names owner name r e = go (found-ok (names.node owner.text) _ _ _ r e) where
-  go : ((n : ℕ × Bool) × (names.node owner.text ≡ Some n) × ((if n.1 then attribute_read names n.0 name else wrong_at owner.span NotRead) ≡ Ok r)) →
+slot-ok names owner name r e = go (needed-ok (names.node owner.text) _ _ r e) where
+  go : ((n : ℕ × Bool) × (names.node owner.text ≡ Some n) × ((demand n.1 (wrong_at owner.span NotRead) >>= λ _. attribute_read names n.0 name) ≡ Ok r)) →
       (n : ℕ × Bool) × (names.node owner.text ≡ Some n) × (attribute_read names n.0 name ≡ Ok r)
   go ((n, true), w, h) = ((n, true), w, h)
   go ((n, false), w, h) = cc
@@ -50,14 +50,14 @@ Same names env tree r = value_of env r.0 ≡ value_by_names names env tree
 
 param-same : (names : Names) (env : Env) (name : Name) (r : Expr × Kind) → param_read names name ≡ Ok r → Same names env (Leaf (piece.Name name)) r
 param-same names env name r e =
-    let f = found-ok (names.param name.text) _ _ _ r e in
+    let f = needed-ok (names.param name.text) _ _ r e in
     subst (Same names env (Leaf (piece.Name name))) (inside (expr.Param f.0.0, f.0.1) r f.2)
     (value_of-Param env f.0.0 ∙ sym (ap (option_and_then (λ p. env.param p.0)) f.1))
 
 slot-same : (names : Names) (env : Env) (owner name : Name) (r : Expr × Kind) → slot_read names owner name ≡ Ok r → Same names env (Leaf (piece.Slot owner name)) r
 slot-same names env owner name r e =
     let n = slot-ok names owner name r e in
-    let a = found-ok (names.attribute n.0.0 name.text) _ _ _ r n.2 in
+    let a = needed-ok (names.attribute n.0.0 name.text) _ _ r n.2 in
     subst (Same names env (Leaf (piece.Slot owner name))) (inside (expr.Slot (record { node = n.0.0; attribute = a.0.0 }), a.0.1) r a.2)
     (value_of-Slot env (record { node = n.0.0; attribute = a.0.0 })
     ∙ sym (ap (option_and_then (λ a. env.slot n.0.0 a.0)) a.1)
@@ -76,19 +76,19 @@ leaf-same names env (piece.Binary sign span) r e = cc
 pub same-value : (names : Names) (env : Env) (tree : Tree) (r : Expr × Kind) → checked names tree ≡ Ok r → Same names env tree r
 same-value names env (Leaf p) r e = leaf-same names env p r e
 same-value names env (Not span a) r e =
-    let x = after-ok (checked names a) _ r e in
-    let f = found-ok (kind_negated x.0.1) _ _ _ r x.2 in
+    let x = steps-ok (checked names a) _ r e in
+    let f = needed-ok (kind_negated x.0.1) _ _ r x.2 in
     subst (Same names env (Not span a)) (inside (expr.Not x.0.0, f.0) r f.2)
     (value_of-Not env x.0.0 ∙ ap (option_and_then negated) (same-value names env a x.0 x.1))
 same-value names env (Minus span a) r e =
-    let x = after-ok (checked names a) _ r e in
-    let f = found-ok (kind_opposite x.0.1) _ _ _ r x.2 in
+    let x = steps-ok (checked names a) _ r e in
+    let f = needed-ok (kind_opposite x.0.1) _ _ r x.2 in
     subst (Same names env (Minus span a)) (inside (expr.Minus x.0.0, f.0) r f.2)
     (value_of-Minus env x.0.0 ∙ ap (option_and_then opposite) (same-value names env a x.0 x.1))
 same-value names env (Binary sign span a b) r e =
-    let x = after-ok (checked names a) _ r e in
-    let y = after-ok (checked names b) _ r x.2 in
-    let f = found-ok (kind_joined sign x.0.1 y.0.1) _ _ _ r y.2 in
+    let x = steps-ok (checked names a) _ r e in
+    let y = steps-ok (checked names b) _ r x.2 in
+    let f = needed-ok (kind_joined sign x.0.1 y.0.1) _ _ r y.2 in
     subst (Same names env (Binary sign span a b)) (inside (expr.Binary sign x.0.0 y.0.0, f.0) r f.2)
     (value_of-Binary env sign x.0.0 y.0.0
     ∙ ap₂ (λ u v. option_and_then (λ w. option_and_then (joined sign w) v) u) (same-value names env a x.0 x.1) (same-value names env b y.0 y.1))
@@ -103,11 +103,11 @@ leaf-kinded names scope h (piece.Int n span) r e = subst (Kinded scope) (inside 
 leaf-kinded names scope h (piece.Text t span) r e = subst (Kinded scope) (inside (expr.Literal (value.Text t), kind.Text) r e) (kind_in-Literal scope (value.Text t))
 leaf-kinded names scope h (piece.Bool b span) r e = subst (Kinded scope) (inside (expr.Literal (value.Bool b), kind.Bool) r e) (kind_in-Literal scope (value.Bool b))
 leaf-kinded names scope h (piece.Name name) r e =
-    let f = found-ok (names.param name.text) _ _ _ r e in
+    let f = needed-ok (names.param name.text) _ _ r e in
     subst (Kinded scope) (inside (expr.Param f.0.0, f.0.1) r f.2) (kind_in-Param scope f.0.0 ∙ h.params name.text f.0.0 f.0.1 f.1)
 leaf-kinded names scope h (piece.Slot owner name) r e =
     let n = slot-ok names owner name r e in
-    let a = found-ok (names.attribute n.0.0 name.text) _ _ _ r n.2 in
+    let a = needed-ok (names.attribute n.0.0 name.text) _ _ r n.2 in
     subst (Kinded scope) (inside (expr.Slot (record { node = n.0.0; attribute = a.0.0 }), a.0.1) r a.2)
     (kind_in-Slot scope (record { node = n.0.0; attribute = a.0.0 }) ∙ h.attributes n.0.0 name.text a.0.0 a.0.1 a.1)
 leaf-kinded names scope h (piece.Not span) r e = cc
@@ -117,19 +117,19 @@ leaf-kinded names scope h (piece.Binary sign span) r e = cc
 pub its-kind : (names : Names) (scope : Scope) → Agrees names scope → (tree : Tree) (r : Expr × Kind) → checked names tree ≡ Ok r → Kinded scope r
 its-kind names scope h (Leaf p) r e = leaf-kinded names scope h p r e
 its-kind names scope h (Not span a) r e =
-    let x = after-ok (checked names a) _ r e in
-    let f = found-ok (kind_negated x.0.1) _ _ _ r x.2 in
+    let x = steps-ok (checked names a) _ r e in
+    let f = needed-ok (kind_negated x.0.1) _ _ r x.2 in
     subst (Kinded scope) (inside (expr.Not x.0.0, f.0) r f.2)
     (kind_in-Not scope x.0.0 ∙ ap (option_and_then kind_negated) (its-kind names scope h a x.0 x.1) ∙ f.1)
 its-kind names scope h (Minus span a) r e =
-    let x = after-ok (checked names a) _ r e in
-    let f = found-ok (kind_opposite x.0.1) _ _ _ r x.2 in
+    let x = steps-ok (checked names a) _ r e in
+    let f = needed-ok (kind_opposite x.0.1) _ _ r x.2 in
     subst (Kinded scope) (inside (expr.Minus x.0.0, f.0) r f.2)
     (kind_in-Minus scope x.0.0 ∙ ap (option_and_then kind_opposite) (its-kind names scope h a x.0 x.1) ∙ f.1)
 its-kind names scope h (Binary sign span a b) r e =
-    let x = after-ok (checked names a) _ r e in
-    let y = after-ok (checked names b) _ r x.2 in
-    let f = found-ok (kind_joined sign x.0.1 y.0.1) _ _ _ r y.2 in
+    let x = steps-ok (checked names a) _ r e in
+    let y = steps-ok (checked names b) _ r x.2 in
+    let f = needed-ok (kind_joined sign x.0.1 y.0.1) _ _ r y.2 in
     subst (Kinded scope) (inside (expr.Binary sign x.0.0 y.0.0, f.0) r f.2)
     (kind_in-Binary scope sign x.0.0 y.0.0
     ∙ ap₂ (λ u v. option_and_then (λ w. option_and_then (kind_joined sign w) v) u) (its-kind names scope h a x.0 x.1) (its-kind names scope h b y.0 y.1) ∙ f.1)

@@ -1,5 +1,5 @@
-pub mod Answers
 pub mod Checking
+pub mod Keeping
 pub mod Lent
 pub mod Naming
 pub mod Stepping

@@ -4,8 +4,8 @@ ghost use Rattle.hs_expr.specs.declared.value.Kind.TheVariants as kind;
 ghost use Rattle.hs_text.specs.Trees.{tree_of};
 ghost use Rattle.hs_text.specs.WellFormed.{AreWellFormed};
 
-use crate::{CheckFault, Scope, Wrong, check};
-use hs_expr::{Expr, Kind, NameExpr, Sign, SlotRead, Text};
+use crate::{Checked, Scope, check};
+use hs_expr::{Expr, Failure, Kind, NameExpr, Sign, SlotRead, Text};
 use hs_text::{Definition, Item, Simple, parse};
 use std::alloc::{AllocError, Global};
 use std::test::Fail;
@@ -96,25 +96,6 @@ fn only_where(definitions: &[Definition]) -> Option<&NameExpr>
     }
 }
 
-/// Whether the expression is checked to have this kind, or to have this fault in this column.
-fn is_told(
-    alloc: Global,
-    expr: &NameExpr,
-    want: Result<Kind, (Wrong, u8)>,
-) -> Result<bool, AllocError>
-    requires { is_some (tree_of expr.now.pieces) ≡ true }
-{
-    let scope = make_sample(alloc)?;
-    match check(alloc, expr, &scope) {
-        Ok((_, kind)) => Ok(want == Ok(kind)),
-        Err(CheckFault::Expr(fault)) => Ok(match want {
-            Ok(_) => false,
-            Err((kind, column)) => fault.kind == kind && fault.at.column == usize::from(column),
-        }),
-        Err(CheckFault::NoMemory) => Ok(false),
-    }
-}
-
 /// Whether the expression is checked to be `a.n == n`, by numbers.
 fn is_resolved(alloc: Global, expr: &NameExpr) -> Result<bool, AllocError>
     requires { is_some (tree_of expr.now.pieces) ≡ true }
@@ -125,12 +106,15 @@ fn is_resolved(alloc: Global, expr: &NameExpr) -> Result<bool, AllocError>
         attribute: 7,
     };
     Ok(match check(alloc, expr, &scope) {
-        Ok((Expr::Binary(Sign::Equal, left, right), Kind::Bool)) => {
-            match (left.get(), right.get()) {
-                (Expr::Slot(slot), Expr::Param(number)) => *slot == read && *number == 0,
-                _ => false,
-            }
-        }
+        Ok(
+            Checked {
+                kind: Kind::Bool,
+                expr: Some(Expr::Binary(Sign::Equal, left, right)),
+            },
+        ) => match (left.get(), right.get()) {
+            (Expr::Slot(slot), Expr::Param(number)) => *slot == read && *number == 0,
+            _ => false,
+        },
         _ => false,
     })
 }
@@ -147,96 +131,181 @@ fn names_become_numbers(rt: HostRuntime) -> Result<(), Fail> {
     Ok(())
 }
 
-/// Whether the text's expression is checked to have this kind, or to have this fault in this column
-/// of the text.
-fn tells(alloc: Global, text: &str, want: Result<Kind, (Wrong, u8)>) -> Result<bool, AllocError> {
+/// The kind that the expression has, and whether it nests too deep to be kept; or its first fault,
+/// with the column.
+fn told(alloc: Global, expr: &NameExpr) -> Result<String, AllocError>
+    requires { is_some (tree_of expr.now.pieces) ≡ true }
+{
+    let scope = make_sample(alloc)?;
+    match check(alloc, expr, &scope) {
+        Ok(checked) => match checked.expr {
+            Some(_) => format!(in alloc; "{:?}", checked.kind),
+            None => format!(in alloc; "{:?}, too deep", checked.kind),
+        },
+        Err(Failure::Fault(fault)) => format!(in alloc; "{:?} at {}", fault.kind, fault.at.column),
+        Err(Failure::NoMemory) => String::from_str(alloc, "no memory"),
+    }
+}
+
+/// What is told of the text's expression.
+fn answer(alloc: Global, text: &str) -> Result<String, AllocError> {
     let rule = format!(in alloc; "rule r() {{where\n{text};}}")?;
     match parse(alloc, rule.as_str()) {
         Ok(syntax) => match only_where(syntax.definitions.as_slice()) {
-            Some(expr) => is_told(alloc, expr, want),
-            None => Ok(false),
+            Some(expr) => told(alloc, expr),
+            None => String::from_str(alloc, "no expression"),
         },
-        Err(_) => Ok(false),
+        Err(_) => String::from_str(alloc, "no syntax"),
     }
 }
+
+/// The first line of the table that isn't so: before its bar stands an expression, and behind it
+/// what is told of it.
+fn first_wrong<'a>(alloc: Global, table: &'a str) -> Result<Option<&'a str>, AllocError> {
+    for line in table.lines() {
+        let is_right = match line.split_once(" | ") {
+            Some((text, want)) => answer(alloc, text)?.as_str() == want,
+            None => false,
+        };
+        if !is_right {
+            return Ok(Some(line));
+        }
+    }
+    Ok(None)
+}
+
+const KINDS: &str = "n + 1 > 0 | Bool
+a.n * -2 | Int
+t | Text
+t == \"\" | Bool
+a.p != p | Bool
+not (p and a.p or true) | Bool";
 
 #[test]
 fn kinds_are_found(rt: HostRuntime) -> Result<(), Fail> {
-    for (text, kind) in [
-        ("n + 1 > 0", Kind::Bool),
-        ("a.n * -2", Kind::Int),
-        ("t", Kind::Text),
-        ("t == \"\"", Kind::Bool),
-        ("a.p != p", Kind::Bool),
-        ("not (p and a.p or true)", Kind::Bool),
-    ] {
-        let told = tells(rt.alloc(), text, Ok(kind))?;
-        assert!(rt; told, "{text}");
-    }
+    assert_eq!(rt; first_wrong(rt.alloc(), KINDS)?, None);
     Ok(())
 }
+
+const FAULTS: &str = "z + 1 | UnknownName at 1
+1 + z | UnknownName at 5
+(1 + (2 * z)) > 0 | UnknownName at 11
+a + 1 | UnknownName at 1
+z.n + 1 | UnknownNode at 1
+1 + z.n | UnknownNode at 5
+not (1 > z.n) | UnknownNode at 10
+c.n + 1 | NotRead at 1
+1 + c.n | NotRead at 5
+not (1 > c.n) | NotRead at 10
+a.z + 1 | UnknownAttribute at 3
+1 + a.z | UnknownAttribute at 7
+not (1 > a.z) | UnknownAttribute at 12
+p + 1 | BadKind at 3
+1 + p | BadKind at 3
+1 + (2 * p) | BadKind at 8";
 
 #[test]
 fn each_fault_has_its_place(rt: HostRuntime) -> Result<(), Fail> {
-    for (text, kind, column) in [
-        ("z + 1", Wrong::UnknownName, 1),
-        ("1 + z", Wrong::UnknownName, 5),
-        ("(1 + (2 * z)) > 0", Wrong::UnknownName, 11),
-        ("a + 1", Wrong::UnknownName, 1),
-        ("z.n + 1", Wrong::UnknownNode, 1),
-        ("1 + z.n", Wrong::UnknownNode, 5),
-        ("not (1 > z.n)", Wrong::UnknownNode, 10),
-        ("c.n + 1", Wrong::NotRead, 1),
-        ("1 + c.n", Wrong::NotRead, 5),
-        ("not (1 > c.n)", Wrong::NotRead, 10),
-        ("a.z + 1", Wrong::UnknownAttribute, 3),
-        ("1 + a.z", Wrong::UnknownAttribute, 7),
-        ("not (1 > a.z)", Wrong::UnknownAttribute, 12),
-        ("p + 1", Wrong::BadKind, 3),
-        ("1 + p", Wrong::BadKind, 3),
-        ("1 + (2 * p)", Wrong::BadKind, 8),
-    ] {
-        let told = tells(rt.alloc(), text, Err((kind, column)))?;
-        assert!(rt; told, "{text}");
-    }
+    assert_eq!(rt; first_wrong(rt.alloc(), FAULTS)?, None);
     Ok(())
 }
+
+const UNLIKE: &str = "not 1 | BadKind at 1
+not t | BadKind at 1
+-p | BadKind at 1
+-t | BadKind at 1
+n == p | BadKind at 3
+t != n | BadKind at 3
+t < t | BadKind at 3
+p >= p | BadKind at 3
+n and p | BadKind at 3
+p or t | BadKind at 3
+t * t | BadKind at 3";
 
 #[test]
 fn signs_take_their_kinds_alone(rt: HostRuntime) -> Result<(), Fail> {
-    for (text, column) in [
-        ("not 1", 1),
-        ("not t", 1),
-        ("-p", 1),
-        ("-t", 1),
-        ("n == p", 3),
-        ("t != n", 3),
-        ("t < t", 3),
-        ("p >= p", 3),
-        ("n and p", 3),
-        ("p or t", 3),
-        ("t * t", 3),
-    ] {
-        let told = tells(rt.alloc(), text, Err((Wrong::BadKind, column)))?;
-        assert!(rt; told, "{text}");
+    assert_eq!(rt; first_wrong(rt.alloc(), UNLIKE)?, None);
+    Ok(())
+}
+
+const TWO_FAULTS: &str = "z + y.n | UnknownName at 1
+y.n + z | UnknownNode at 1
+(p + 1) + z | BadKind at 4
+z + (p + 1) | UnknownName at 1
+p + z | UnknownName at 5
+not (1 + c.n) | NotRead at 10
+c.z == a.z | NotRead at 1
+a.z == c.z | UnknownAttribute at 3";
+
+#[test]
+fn the_first_of_two_faults_is_told(rt: HostRuntime) -> Result<(), Fail> {
+    assert_eq!(rt; first_wrong(rt.alloc(), TWO_FAULTS)?, None);
+    Ok(())
+}
+
+/// Puts the part so many times behind the text.
+fn repeat(text: &mut String, part: &str, count: u32) -> Result<(), AllocError> {
+    for _ in 0..count {
+        text.push_str(part)?;
     }
     Ok(())
 }
 
+/// Whether this is told of the middle with so many fronts before it and ends behind it.
+fn is_told(
+    alloc: Global,
+    count: u32,
+    front: &str,
+    middle: &str,
+    end: &str,
+    want: &str,
+) -> Result<bool, AllocError> {
+    let mut text = String::new(alloc);
+    repeat(&mut text, front, count)?;
+    text.push_str(middle)?;
+    repeat(&mut text, end, count)?;
+    Ok(answer(alloc, text.as_str())?.as_str() == want)
+}
+
 #[test]
-fn the_first_of_two_faults_is_told(rt: HostRuntime) -> Result<(), Fail> {
-    for (text, kind, column) in [
-        ("z + y.n", Wrong::UnknownName, 1),
-        ("y.n + z", Wrong::UnknownNode, 1),
-        ("(p + 1) + z", Wrong::BadKind, 4),
-        ("z + (p + 1)", Wrong::UnknownName, 1),
-        ("p + z", Wrong::UnknownName, 5),
-        ("not (1 + c.n)", Wrong::NotRead, 10),
-        ("c.z == a.z", Wrong::NotRead, 1),
-        ("a.z == c.z", Wrong::UnknownAttribute, 3),
-    ] {
-        let told = tells(rt.alloc(), text, Err((kind, column)))?;
-        assert!(rt; told, "{text}");
-    }
+fn what_nests_33_deep_is_not_kept(rt: HostRuntime) -> Result<(), Fail> {
+    let alloc = rt.alloc();
+    assert!(rt; is_told(alloc, 32, "not ", "true", "", "Bool")?);
+    assert!(rt; is_told(alloc, 33, "not ", "true", "", "Bool, too deep")?);
+    assert!(rt; is_told(alloc, 32, "-", "n", "", "Int")?);
+    assert!(rt; is_told(alloc, 33, "-", "n", "", "Int, too deep")?);
+    assert!(rt; is_told(alloc, 32, "", "n", " + 1", "Int")?);
+    assert!(rt; is_told(alloc, 33, "", "n", " + 1", "Int, too deep")?);
+    assert!(rt; is_told(alloc, 32, "1 + (", "n", ")", "Int")?);
+    assert!(rt; is_told(alloc, 33, "1 + (", "n", ")", "Int, too deep")?);
+    Ok(())
+}
+
+#[test]
+fn a_million_operators_are_checked(rt: HostRuntime) -> Result<(), Fail> {
+    let alloc = rt.alloc();
+    assert!(rt; is_told(alloc, 1_000_000, "not ", "true", "", "Bool, too deep")?);
+    assert!(rt; is_told(alloc, 1_000_000, "-", "n", "", "Int, too deep")?);
+    assert!(rt; is_told(alloc, 1_000_000, "", "1", " + 1", "Int, too deep")?);
+    assert!(rt; is_told(alloc, 1_000_000, "1 + (", "1", ")", "Int, too deep")?);
+    Ok(())
+}
+
+#[test]
+fn a_fault_at_either_end_of_a_million_operators_is_told(rt: HostRuntime) -> Result<(), Fail> {
+    let alloc = rt.alloc();
+    assert!(rt; is_told(alloc, 1_000_000, "", "z", " + 1", "UnknownName at 1")?);
+    assert!(rt; is_told(alloc, 1_000_000, "1 + ", "z", "", "UnknownName at 4000001")?);
+    assert!(rt;
+        is_told(
+            alloc,
+            1_000_000,
+            "1 + (",
+            "z",
+            ")",
+            "UnknownName at 5000001"
+        )?
+    );
+    assert!(rt; is_told(alloc, 1_000_000, "", "p", " + 1", "BadKind at 3")?);
     Ok(())
 }

@@ -1,5 +1,7 @@
+ghost use Rattle.std.specs.Prelude.{◌≡◌};
+ghost use Rattle.hs_eval.specs.Checking.{wrong_at};
+
 use hs_expr::Span;
-use std::alloc::{AllocError, AllocFailed};
 
 /// What is wrong in an expression.
 #[derive(Clone, Copy, PartialEq, Eq, Debug)]
@@ -21,33 +23,9 @@ pub struct ExprFault {
     pub kind: Wrong,
 }
 
-/// Why an expression isn't checked.
-#[derive(Clone, Copy, PartialEq, Eq, Debug)]
-pub enum CheckFault {
-    /// Its first fault.
-    Expr(ExprFault),
-    /// Memory was wanting.
-    NoMemory,
-}
-
-impl From<AllocError> for CheckFault {
-    ghost use Rattle.std.specs.Prelude.{◌≡◌};
-    ghost use Rattle.hs_eval.specs.declared.fault.CheckFault.TheVariants.{NoMemory};
-
-    ghost from_gives = { λ _ e. e ≡ NoMemory };
-
-    fn from(_error: AllocError) -> CheckFault {
-        CheckFault::NoMemory
-    }
-}
-
-impl<T: Drop> From<AllocFailed<T>> for CheckFault {
-    ghost use Rattle.std.specs.Prelude.{◌≡◌};
-    ghost use Rattle.hs_eval.specs.declared.fault.CheckFault.TheVariants.{NoMemory};
-
-    ghost from_gives = { λ _ e. e ≡ NoMemory };
-
-    fn from(_error: AllocFailed<T>) -> CheckFault {
-        CheckFault::NoMemory
-    }
+/// This is wrong at this place.
+pub fn wrong_at(at: Span, kind: Wrong) -> ExprFault
+    ensures { result ≡ wrong_at at kind }
+{
+    ExprFault { at, kind }
 }

@@ -1,10 +1,12 @@
-ghost use Rattle.std.specs.Prelude.{◌≡◌, Ok, Some};
+ghost use Rattle.std.specs.Prelude.{◌≡◌, ◌≤◌, Ok, Some};
 ghost use Rattle.hs_expr.specs.declared.expr.Expr.{Expr};
 ghost use Rattle.hs_expr.specs.declared.value.Kind.{Kind};
 ghost use Rattle.hs_expr.specs.Evaluation as evaluation;
-ghost use Rattle.hs_expr.specs.Evaluation.{kind_in, value_of};
+ghost use Rattle.hs_expr.specs.Evaluation.{kind_in, nesting, value_of};
 ghost use Rattle.hs_text.specs.Trees.{Tree};
+ghost use Rattle.hs_eval.specs.declared.checked.Checked.{Checked};
 ghost use Rattle.hs_eval.specs.Checking.{Names, checked};
+ghost use Rattle.hs_eval.specs.Keeping.{kept, mapped};
 ghost use Rattle.hs_eval.specs.Naming.{Agrees, value_by_names};
 
 /// A checked expression is worth what the expression by names is, wherever it is read.
@@ -18,4 +20,11 @@ pub fn checked_is_worth_the_same()
 pub fn checked_has_its_kind()
     ensures { (names : Names) (scope : evaluation.Scope) → Agrees names scope → (tree : Tree) (r : Expr × Kind) → checked names tree ≡ Ok r
         → kind_in scope r.0 ≡ Some r.1 }
+{}
+
+/// An expression that is kept is the checked one, of the kind that is told, and nests at most 32
+/// deep.
+pub fn kept_is_checked()
+    ensures { (names : Names) (tree : Tree) (told : Checked) (e : Expr) → mapped kept (checked names tree) ≡ Ok told → told.expr ≡ Some e
+        → (checked names tree ≡ Ok (e, told.kind)) × (nesting e ≤ 32) }
 {}

@@ -1,50 +1,55 @@
 //! The parts of an expression that have no operands.
 
-ghost use Rattle.std.specs.Prelude.{◌≡◌, Err, Result};
-ghost use Rattle.hs_eval.specs.Answers.{Gives};
-ghost use Rattle.hs_eval.specs.Checking.{attribute_read, found, leaf, param_read, slot_read, wrong_at};
+ghost use Rattle.hs_expr.specs.Steps.{Gives};
+ghost use Rattle.hs_eval.specs.Checking.{attribute_read, leaf, param_read, slot_read};
+ghost use Rattle.hs_eval.specs.Keeping.{mapped};
+ghost use Rattle.hs_eval.specs.Stepping.{bare};
 
 use crate::Scope;
-use crate::fault::{CheckFault, ExprFault, Wrong};
-use hs_expr::{Expr, Kind, Name, Piece, SlotRead, Span, Value};
+use crate::fault::{ExprFault, Wrong, wrong_at};
+use crate::operand::Operand;
+use hs_expr::{Expr, Failure, Kind, Name, Piece, SlotRead, Value, demand, needed};
 
-/// This is wrong at this place.
-pub fn wrong_at(at: Span, kind: Wrong) -> CheckFault
-    ensures { Gives (Err result) (wrong_at at kind) }
-{
-    CheckFault::Expr(ExprFault { at, kind })
-}
-
-fn param_read<C: Scope>(name: &Name, scope: &C) -> Result<(Expr, Kind), CheckFault>
+fn param_read<C: Scope>(name: &Name, scope: &C) -> Result<(Expr, Kind), Failure<ExprFault>>
     ensures { Gives result (param_read (C.names scope.now) name.now) }
 {
-    match scope.param(name.text.as_str()) {
-        Some((number, kind)) => Ok((Expr::Param(number), kind)),
-        None => Err(wrong_at(name.span, Wrong::UnknownName)),
-    }
+    let (number, kind) = needed(
+        scope.param(name.text.as_str()),
+        wrong_at(name.span, Wrong::UnknownName),
+    )?;
+    Ok((Expr::Param(number), kind))
 }
 
-fn attribute_read<C: Scope>(node: u16, name: &Name, scope: &C) -> Result<(Expr, Kind), CheckFault>
+fn attribute_read<C: Scope>(
+    node: u16,
+    name: &Name,
+    scope: &C,
+) -> Result<(Expr, Kind), Failure<ExprFault>>
     ensures { Gives result (attribute_read (C.names scope.now) node name.now) }
 {
-    match scope.attribute(node, name.text.as_str()) {
-        Some((attribute, kind)) => Ok((Expr::Slot(SlotRead { node, attribute }), kind)),
-        None => Err(wrong_at(name.span, Wrong::UnknownAttribute)),
-    }
+    let (attribute, kind) = needed(
+        scope.attribute(node, name.text.as_str()),
+        wrong_at(name.span, Wrong::UnknownAttribute),
+    )?;
+    Ok((Expr::Slot(SlotRead { node, attribute }), kind))
 }
 
-fn slot_read<C: Scope>(owner: &Name, name: &Name, scope: &C) -> Result<(Expr, Kind), CheckFault>
+fn slot_read<C: Scope>(
+    owner: &Name,
+    name: &Name,
+    scope: &C,
+) -> Result<(Expr, Kind), Failure<ExprFault>>
     ensures { Gives result (slot_read (C.names scope.now) owner.now name.now) }
 {
-    match scope.node(owner.text.as_str()) {
-        Some((node, true)) => attribute_read(node, name, scope),
-        Some((_, false)) => Err(wrong_at(owner.span, Wrong::NotRead)),
-        None => Err(wrong_at(owner.span, Wrong::UnknownNode)),
-    }
+    let (node, is_left) = needed(
+        scope.node(owner.text.as_str()),
+        wrong_at(owner.span, Wrong::UnknownNode),
+    )?;
+    demand(is_left, wrong_at(owner.span, Wrong::NotRead))?;
+    attribute_read(node, name, scope)
 }
 
-/// What a part without operands is checked to be.
-pub fn leaf<C: Scope>(piece: &Piece, scope: &C) -> Result<(Expr, Kind), CheckFault>
+fn read<C: Scope>(piece: &Piece, scope: &C) -> Result<(Expr, Kind), Failure<ExprFault>>
     ensures { Gives result (leaf (C.names scope.now) piece.now) }
 {
     match piece {
@@ -54,7 +59,15 @@ pub fn leaf<C: Scope>(piece: &Piece, scope: &C) -> Result<(Expr, Kind), CheckFau
         Piece::Name(name) => param_read(name, scope),
         Piece::Slot { node, attribute } => slot_read(node, attribute, scope),
         Piece::Not { span } | Piece::Minus { span } | Piece::Binary { span, .. } => {
-            Err(wrong_at(*span, Wrong::BadKind))
+            Err(Failure::Fault(wrong_at(*span, Wrong::BadKind)))
         }
     }
+}
+
+/// What a part without operands is checked to be.
+pub fn leaf<C: Scope>(piece: &Piece, scope: &C) -> Result<Operand, Failure<ExprFault>>
+    ensures { Gives result (mapped bare (leaf (C.names scope.now) piece.now)) }
+{
+    let (expr, kind) = read(piece, scope)?;
+    Ok(Operand::bare(expr, kind))
 }

@@ -3,10 +3,12 @@
 //! What an expression reads is behind the trait [`Env`], and what it is worth there a [`ValueRef`],
 //! whose text is lent. [`eval`] takes no memory.
 //!
-//! [`check`] turns an expression by names into one by numbers, over a [`Scope`] that says what the
-//! names stand for, or tells its first fault.
+//! [`check`] tells the kind of an expression by names, over a [`Scope`] that says what the names
+//! stand for, and turns it into one by numbers where it nests at most 32 deep, or tells its first
+//! fault.
 #![tactic(auto)]
 
+mod checked;
 mod checks;
 mod evaluate;
 mod fault;
@@ -15,16 +17,19 @@ mod kinds;
 mod laws;
 mod leaves;
 mod nests;
+mod operand;
 mod operators;
 mod reading;
 mod scope;
+mod shallow;
 mod stack;
 mod value_ref;
 
+pub use checked::Checked;
 pub use checks::check;
 pub use evaluate::eval;
-pub use fault::{CheckFault, ExprFault, Wrong};
-pub use laws::{checked_has_its_kind, checked_is_worth_the_same};
+pub use fault::{ExprFault, Wrong};
+pub use laws::{checked_has_its_kind, checked_is_worth_the_same, kept_is_checked};
 pub use nests::nests_within;
 pub use reading::Env;
 pub use scope::Scope;

@@ -1,56 +1,48 @@
 //! Signs and words with their operands.
 
-ghost use Rattle.hs_eval.specs.Answers.{Gives};
-ghost use Rattle.hs_eval.specs.Checking.{junction, negation, opposition};
+ghost use Rattle.hs_expr.specs.Steps.{Gives};
+ghost use Rattle.hs_eval.specs.Stepping.{junction_held, negation_held, opposition_held};
 
-use crate::fault::{CheckFault, Wrong};
+use crate::fault::{ExprFault, Wrong, wrong_at};
 use crate::kinds::{kind_joined, kind_negated, kind_opposite};
-use crate::leaves::wrong_at;
-use hs_expr::{Expr, Kind, Sign, Span};
-use sqlite_items::Boxed;
+use crate::operand::Operand;
+use crate::shallow::{joined, negated, opposed};
+use hs_expr::{Failure, Sign, Span, needed};
 use std::alloc::Global;
 
-pub fn negation(
-    alloc: Global,
-    span: Span,
-    operand: (Expr, Kind),
-) -> Result<(Expr, Kind), CheckFault>
-    ensures { Gives result (negation span operand) }
+pub fn negation(alloc: Global, span: Span, operand: Operand) -> Result<Operand, Failure<ExprFault>>
+    ensures { Gives result (negation_held span operand) }
 {
-    match kind_negated(operand.1) {
-        Some(kind) => Ok((Expr::Not(Boxed::new(alloc, operand.0)?), kind)),
-        None => Err(wrong_at(span, Wrong::BadKind)),
-    }
+    let kind = needed(kind_negated(operand.kind), wrong_at(span, Wrong::BadKind))?;
+    let shallow = negated(alloc, operand.shallow)?;
+    Ok(Operand { kind, shallow })
 }
 
 pub fn opposition(
     alloc: Global,
     span: Span,
-    operand: (Expr, Kind),
-) -> Result<(Expr, Kind), CheckFault>
-    ensures { Gives result (opposition span operand) }
+    operand: Operand,
+) -> Result<Operand, Failure<ExprFault>>
+    ensures { Gives result (opposition_held span operand) }
 {
-    match kind_opposite(operand.1) {
-        Some(kind) => Ok((Expr::Minus(Boxed::new(alloc, operand.0)?), kind)),
-        None => Err(wrong_at(span, Wrong::BadKind)),
-    }
+    let kind = needed(kind_opposite(operand.kind), wrong_at(span, Wrong::BadKind))?;
+    let shallow = opposed(alloc, operand.shallow)?;
+    Ok(Operand { kind, shallow })
 }
 
 pub fn junction(
     alloc: Global,
     sign: Sign,
     span: Span,
-    left: (Expr, Kind),
-    right: (Expr, Kind),
-) -> Result<(Expr, Kind), CheckFault>
-    ensures { Gives result (junction sign span left right) }
+    left: Operand,
+    right: Operand,
+) -> Result<Operand, Failure<ExprFault>>
+    ensures { Gives result (junction_held sign span left right) }
 {
-    match kind_joined(sign, left.1, right.1) {
-        Some(kind) => {
-            let left = Boxed::new(alloc, left.0)?;
-            let right = Boxed::new(alloc, right.0)?;
-            Ok((Expr::Binary(sign, left, right), kind))
-        }
-        None => Err(wrong_at(span, Wrong::BadKind)),
-    }
+    let kind = needed(
+        kind_joined(sign, left.kind, right.kind),
+        wrong_at(span, Wrong::BadKind),
+    )?;
+    let shallow = joined(alloc, sign, left.shallow, right.shallow)?;
+    Ok(Operand { kind, shallow })
 }

@@ -1,5 +1,5 @@
 use Rattle.std.proofs.Common.{Ok, ap, sym, ◌∙◌}
-use Rattle.hs_eval.proofs.Piles.{end-some, end-told, fault-told, same-pieces}
+use Rattle.hs_eval.proofs.Piles.{end-some, end-told, failure-told, same-pieces}
 use Rattle.hs_eval.proofs.checks.check.Goals as goal
 
 pub unreachable-requires : goal.unreachable-requires
@@ -13,10 +13,11 @@ pub returns-in-Some : goal.returns-in-Some
 returns-in-Some g c = λ tree is.
     let names = g.C.Scope.names c.args.scope.now in
     let pieces = c.args.names.now.pieces in
-    end-told names pieces tree c.in-Some.one c.pop.new.self is
+    end-told names pieces tree c.in-Some.operand c.pop.new.self is
     (same-pieces names pieces c.as_slice.result.now (sym c.as_slice.ensures) ∙ c.in-Ok.ensures ∙ ap Ok c.in-Some.ensures)
+    ∙ ap Ok (sym c.release.ensures)
 
 pub returns-in-Err : goal.returns-in-Err
 returns-in-Err g c = λ tree is.
     let names = g.C.Scope.names c.args.scope.now in
-    fault-told names c.args.names.now.pieces c.as_slice.result.now tree c.in-Err.fault (sym c.as_slice.ensures) is c.in-Err.ensures
+    failure-told names c.args.names.now.pieces c.as_slice.result.now tree c.in-Err.failure (sym c.as_slice.ensures) is c.in-Err.ensures

@@ -1,0 +1,6 @@
+use Rattle.hs_eval.specs.Checking.{checked}
+use Rattle.hs_eval.proofs.Kept.{kept-checked}
+use Rattle.hs_eval.proofs.laws.kept_is_checked.Goals as goal
+
+pub returns : goal.returns
+returns c = λ names tree. kept-checked (checked names tree)

@@ -1,0 +1,67 @@
+//! Expressions that nest at most 32 deep, built one operator at a time.
+
+ghost use Rattle.std.specs.Prelude.{◌≡◌, IfOk};
+ghost use Rattle.hs_eval.specs.Stepping.{raised, raised_both};
+
+use hs_expr::{Expr, Sign};
+use sqlite_items::Boxed;
+use std::alloc::{AllocError, Global};
+
+/// How deep an expression may nest that is built. Dropping one takes a call for each level.
+const MOST: u32 = 32;
+
+/// An expression that nests so deep.
+#[derive(Debug, Drop)]
+pub struct Shallow {
+    pub expr: Expr,
+    pub depth: u32,
+}
+
+/// `not` on the operand; none where it would nest too deep.
+pub fn negated(alloc: Global, operand: Option<Shallow>) -> Result<Option<Shallow>, AllocError>
+    ensures { IfOk result (λ made. made ≡ raised Expr.Not operand) }
+{
+    match operand {
+        Some(operand) if operand.depth < MOST => Ok(Some(Shallow {
+            expr: Expr::Not(Boxed::new(alloc, operand.expr)?),
+            depth: operand.depth + 1,
+        })),
+        _ => Ok(None),
+    }
+}
+
+/// The minus sign on the operand; none where it would nest too deep.
+pub fn opposed(alloc: Global, operand: Option<Shallow>) -> Result<Option<Shallow>, AllocError>
+    ensures { IfOk result (λ made. made ≡ raised Expr.Minus operand) }
+{
+    match operand {
+        Some(operand) if operand.depth < MOST => Ok(Some(Shallow {
+            expr: Expr::Minus(Boxed::new(alloc, operand.expr)?),
+            depth: operand.depth + 1,
+        })),
+        _ => Ok(None),
+    }
+}
+
+/// A sign or word between the operands; none where it would nest too deep.
+pub fn joined(
+    alloc: Global,
+    sign: Sign,
+    left: Option<Shallow>,
+    right: Option<Shallow>,
+) -> Result<Option<Shallow>, AllocError>
+    ensures { IfOk result (λ made. made ≡ raised_both (Expr.Binary sign) left right) }
+{
+    match (left, right) {
+        (Some(left), Some(right)) if left.depth < MOST && right.depth < MOST => {
+            let depth = left.depth.max(right.depth) + 1;
+            let left = Boxed::new(alloc, left.expr)?;
+            let right = Boxed::new(alloc, right.expr)?;
+            Ok(Some(Shallow {
+                expr: Expr::Binary(sign, left, right),
+                depth,
+            }))
+        }
+        _ => Ok(None),
+    }
+}
