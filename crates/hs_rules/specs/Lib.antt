@@ -5,3 +5,6 @@ pub mod Named
 pub mod Names
 pub mod FirstPass
 pub mod SecondPass
+pub mod Statements
+pub mod Said
+pub mod ThirdPass

@@ -8,6 +8,7 @@
 mod node_map;
 mod nodes;
 mod second_pass;
+mod statements;
 mod fault;
 mod first_pass;
 mod known;
