@@ -86,3 +86,7 @@ concrete_test m c b says = same_test b (has_concrete m c) there back
         let found = of_range (λ d. is_concrete m d && conforms (supers_of m) d c) 0 (length m.classes) e in
         let parts = and_parts (is_concrete m found.0) (conforms (supers_of m) found.0 c) found.1 in
         says.1 (found.0, at_concrete (class_at m found.0) parts.0, does_conform m found.0 c parts.1, does_conform m found.0 c parts.1)
+
+-- A test that says that one class conforms to another is the definition's.
+pub conforms_test : (m : Metamodel) (c d : ℕ) (b : Bool) → (b ≡ true) ↔ Conforms m c d → b ≡ conforms (supers_of m) c d
+conforms_test m c d b says = same_test b (conforms (supers_of m) c d) (λ e. says_conforms m c d (says.0 e)) (λ e. says.1 (does_conform m c d e))

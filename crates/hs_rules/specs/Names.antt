@@ -1,13 +1,13 @@
 -- What names mean: classes and features of the metamodel, and nodes of the rule.
 use Rattle.std.specs.Prelude.{ℕ, List, Bool, false, ◌&&◌, not, length, nat_lt, codes, if◌then◌else◌, Option, Some, None}
 use Rattle.std.specs.List.{find, list_any, position, range_with_len}
-use Rattle.std.specs.Option.{option_and_then, option_map_or}
+use Rattle.std.specs.Option.{option_and_then, option_map, option_map_or}
 use Rattle.hs_expr.specs.declared.Kind.{Kind}
 use Rattle.hs_expr.specs.declared.Kind.TheVariants as kind
 use Rattle.hs_types.specs.declared.meta.DataType.{DataType}
 use Rattle.hs_types.specs.declared.meta.Metamodel.{Metamodel}
 use Rattle.hs_types.specs.Lists.{same_text}
-use Rattle.hs_types.specs.Metamodel.{class_at, feature_at, features_of, supers_of, target_of, type_of}
+use Rattle.hs_types.specs.Metamodel.{class_at, feature_at, features_of, kind_of_type, supers_of, target_of, type_of}
 use Rattle.hs_types.specs.Supertypes.{conforms}
 use Rattle.hs_rules.specs.declared.nodes.DeclaredNode.{DeclaredNode}
 use Rattle.hs_rules.specs.Named.{first_named}
@@ -51,6 +51,10 @@ target_named m c name = option_and_then (target_of m) (feature_named m c name)
 -- The data type of the attribute of this name, of this class.
 abbrev pub type_named : Metamodel → ℕ → List ℕ → Option DataType
 type_named m c name = option_and_then (type_of m) (feature_named m c name)
+
+-- The kind of the attribute of this name, of this class.
+abbrev pub kind_named : Metamodel → ℕ → List ℕ → Option Kind
+kind_named m c name = option_map kind_of_type (type_named m c name)
 
 -- The first node of this name.
 abbrev pub node_named : List DeclaredNode → List ℕ → Option DeclaredNode

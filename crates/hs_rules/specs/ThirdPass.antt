@@ -1,5 +1,5 @@
 -- The third pass: the edges, sets and conditions, in written order.
-use Rattle.std.specs.Prelude.{ℕ, List, [], ◌∷◌, ◌++◌, Bool, true, false, not, ◌==◌, ◌&&◌, ◌||◌, if◌then◌else◌, Option, Some, None, Result, Ok, Err}
+use Rattle.std.specs.Prelude.{ℕ, nat_le, List, [], ◌∷◌, ◌++◌, Bool, true, false, not, ◌==◌, ◌&&◌, ◌||◌, if◌then◌else◌, Option, Some, None, Result, Ok, Err}
 use Rattle.std.specs.List.{list_any}
 use Rattle.std.specs.Option.{option_and_then, option_map, option_map_or}
 use Rattle.hs_expr.specs.declared.Expr.{Expr}
@@ -8,6 +8,7 @@ use Rattle.hs_expr.specs.declared.Kind.TheVariants as sort
 use Rattle.hs_expr.specs.declared.Name.{Name}
 use Rattle.hs_expr.specs.declared.NameExpr.{NameExpr}
 use Rattle.hs_expr.specs.declared.Span.{Span}
+use Rattle.hs_expr.specs.Evaluation.{nesting}
 use Rattle.hs_expr.specs.Steps.{◌>>=◌, demand, needed}
 use Rattle.hs_eval.specs.Checking.{Names, checked}
 use Rattle.hs_eval.specs.declared.fault.ExprFault.{ExprFault}
@@ -19,7 +20,7 @@ use Rattle.hs_text.specs.declared.syntax.Param.{Param}
 use Rattle.hs_text.specs.Trees.{tree_of}
 use Rattle.hs_types.specs.declared.meta.Metamodel.{Metamodel}
 use Rattle.hs_types.specs.Lists.{same_text}
-use Rattle.hs_types.specs.Metamodel.{kind_of_type, supers_of}
+use Rattle.hs_types.specs.Metamodel.{supers_of}
 use Rattle.hs_types.specs.Supertypes.{conforms}
 use Rattle.hs_rules.specs.declared.nodes.DeclaredNode.{DeclaredNode}
 use Rattle.hs_rules.specs.declared.nodes.Home.{Home}
@@ -28,7 +29,7 @@ use Rattle.hs_rules.specs.declared.fault.RuleFault.{RuleFault}
 use Rattle.hs_rules.specs.declared.fault.RuleFaultKind.{RuleFaultKind}
 use Rattle.hs_rules.specs.declared.fault.RuleFaultKind.TheVariants as kind
 use Rattle.hs_rules.specs.Named.{first_named}
-use Rattle.hs_rules.specs.Names.{class_named, data_named, node_named, target_named, type_named}
+use Rattle.hs_rules.specs.Names.{class_named, data_named, kind_named, node_named, target_named}
 use Rattle.hs_rules.specs.Places.{fault_at}
 use Rattle.hs_rules.specs.SecondPass.{is_kernel}
 use Rattle.hs_rules.specs.Statements.{Statement, Edge, Set, Where}
@@ -87,10 +88,6 @@ may_join (Multi i) mark end = joins mark end
 abbrev pub target_from : Metamodel → DeclaredNode → List ℕ → Option ℕ
 target_from m node name = option_and_then (λ c. target_named m c name) (class_of m node)
 
--- The kind of the attribute of this name, of this class.
-abbrev pub kind_named : Metamodel → ℕ → List ℕ → Option Kind
-kind_named m c name = option_map kind_of_type (type_named m c name)
-
 -- The kind of the node's attribute of this name.
 abbrev pub attribute_kind : Metamodel → DeclaredNode → List ℕ → Option Kind
 attribute_kind m node name = option_and_then (λ c. kind_named m c name) (class_of m node)
@@ -144,6 +141,14 @@ in_rule see (Err fault) = Err (fault_at fault.at (kind_of_wrong fault.kind))
 -- The kind that the expression is checked to have, or its first fault. The pieces of an expression always are one tree.
 abbrev pub kind_checked : Names → NameExpr → Result Kind RuleFault
 kind_checked names expr = option_map_or (λ tree. in_rule (λ (x : Expr × Kind). x.1) (checked names tree)) (tree_of expr.pieces) (Ok sort.Bool)
+
+-- What the expression is checked to be nests at most 32 deep, where it has no fault.
+abbrev pub nests_few : Result (Expr × Kind) ExprFault → Bool
+nests_few (Ok x) = nat_le (nesting x.0) 32
+nests_few (Err fault) = true
+
+abbrev pub is_shallow : Names → NameExpr → Bool
+is_shallow names expr = option_map_or (λ tree. nests_few (checked names tree)) (tree_of expr.pieces) true
 
 abbrev pub same_kind : Kind → Kind → Bool
 same_kind sort.Int sort.Int = true

@@ -16,20 +16,20 @@ use hs_text::{Mark, Param};
 use hs_types::Meta;
 use std::alloc::Global;
 
-/// The first fault of the parameters, each by itself.
+/// The parameters by their names, or their first fault, each by itself.
 #[tactic(auto, using(hs_expr::proofs::Verdicts::each_steps))]
-pub fn params_right(
+pub fn params_right<'a>(
     alloc: Global,
     meta: &Meta,
-    params: &[Param],
-) -> Result<(), Failure<RuleFault>>
-    ensures { Gives result (verdict (spec.faults_of_params meta.now params.now)) }
+    params: &'a [Param],
+) -> Result<Known<'a, Param>, Failure<RuleFault>>
+    ensures { GivesWhere (λ known. Knows (λ other. other.name) known params.now) result (verdict (spec.faults_of_params meta.now params.now)) }
 {
     let mut known = Known::new(alloc);
     for param in params {
         param_right(meta, &mut known, param)?;
     }
-    Ok(())
+    Ok(known)
 }
 
 /// The first fault of a parameter behind the known ones, which it joins.

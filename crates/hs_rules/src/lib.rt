@@ -5,10 +5,12 @@
 //! ([`nodes`]), which the passes look into by name.
 #![tactic(auto)]
 
-mod node_map;
+mod name_map;
 mod nodes;
+mod scope;
 mod second_pass;
 mod statements;
+mod edges;
 mod fault;
 mod first_pass;
 mod known;

@@ -3,6 +3,8 @@
 ghost use Rattle.std.specs.Prelude.{◌≡◌, find};
 ghost use Rattle.std.specs.List.{position};
 ghost use Rattle.hs_types.specs.Lists.{same_text};
+ghost use Rattle.hs_types.specs.Metamodel.{kind_of_type, supers_of};
+ghost use Rattle.hs_types.specs.Supertypes.{conforms};
 ghost use Rattle.hs_rules.specs.Names as spec;
 
 use hs_expr::{Kind, Text};
@@ -58,12 +60,12 @@ pub fn has_concrete(meta: &Meta, class: ClassNo) -> bool
 pub fn target_named(meta: &Meta, class: ClassNo, name: &Text) -> Option<ClassNo>
     ensures { result ≡ spec.target_named meta.now class name.now }
 {
-    let reference = feature_named(meta, class, name)?;
+    let reference = feature_named(meta, class, name.as_str())?;
     meta.target_of(reference)
 }
 
 /// The data type of the attribute of this name, of this class.
-pub fn type_named(meta: &Meta, class: ClassNo, name: &Text) -> Option<DataType>
+pub fn type_named(meta: &Meta, class: ClassNo, name: &str) -> Option<DataType>
     ensures { result ≡ spec.type_named meta.now class name.now }
 {
     let attribute = feature_named(meta, class, name)?;
@@ -71,13 +73,13 @@ pub fn type_named(meta: &Meta, class: ClassNo, name: &Text) -> Option<DataType>
 }
 
 /// The first of the class's features that has this name.
-fn feature_named(meta: &Meta, class: ClassNo, name: &Text) -> Option<FeatureNo>
+fn feature_named(meta: &Meta, class: ClassNo, name: &str) -> Option<FeatureNo>
     ensures { result ≡ spec.feature_named meta.now class name.now }
 {
     first_named(meta, meta.features_of(class), name)
 }
 
-fn first_named(meta: &Meta, features: &[FeatureNo], name: &Text) -> Option<FeatureNo>
+fn first_named(meta: &Meta, features: &[FeatureNo], name: &str) -> Option<FeatureNo>
     ensures { result ≡ find (spec.is_named meta.now name.now) features.now }
 {
     features
@@ -86,11 +88,36 @@ fn first_named(meta: &Meta, features: &[FeatureNo], name: &Text) -> Option<Featu
         .find(|feature| is_named(meta, name, *feature))
 }
 
-fn is_named(meta: &Meta, name: &Text, feature: FeatureNo) -> bool
+fn is_named(meta: &Meta, name: &str, feature: FeatureNo) -> bool
     ensures { result ≡ spec.is_named meta.now name.now feature }
 {
     match meta.feature(feature) {
-        Some(feature) => feature.name == *name,
+        Some(feature) => feature.name.as_str() == name,
         None => false,
+    }
+}
+
+/// Whether the one class conforms to the other.
+pub fn conforms(meta: &Meta, class: ClassNo, above: ClassNo) -> bool
+    ensures { result ≡ conforms (supers_of meta.now) class above }
+{
+    meta.conforms(class, above)
+}
+
+/// The kind of the attribute of this name, of this class.
+pub fn kind_named(meta: &Meta, class: ClassNo, name: &str) -> Option<Kind>
+    ensures { result ≡ spec.kind_named meta.now class name.now }
+{
+    let data_type = type_named(meta, class, name)?;
+    Some(kind_of_type(data_type))
+}
+
+fn kind_of_type(data_type: DataType) -> Kind
+    ensures { result ≡ kind_of_type data_type }
+{
+    match data_type {
+        DataType::EInt | DataType::ELong => Kind::Int,
+        DataType::EBoolean => Kind::Bool,
+        DataType::EString => Kind::Text,
     }
 }

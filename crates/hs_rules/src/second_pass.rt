@@ -8,7 +8,7 @@ ghost use Rattle.hs_rules.specs.SecondPass as spec;
 
 use crate::fault::{RuleFault, RuleFaultKind, fault_at};
 use crate::names::data_named;
-use crate::node_map::NodeMap;
+use crate::name_map::NodeMap;
 use crate::nodes::{DeclaredNode, Home};
 use hs_expr::{check_each, fault_if};
 use hs_text::{Direction, Mark, Param};
@@ -61,7 +61,7 @@ fn object_fits(nodes: &NodeMap<'_>, param: &Param) -> Result<(), RuleFault>
 fn has_node(nodes: &NodeMap<'_>, param: &Param) -> bool
     ensures { result ≡ option_map_or (spec.is_node_of param.now) (node_named nodes.now param.now.name.text) false }
 {
-    match nodes.named(&param.name.text) {
+    match nodes.find(param.name.text.as_str()) {
         Some(node) => node.home == Home::Kernel && is_on_side(param.direction, node.mark),
         None => false,
     }
@@ -71,7 +71,7 @@ fn has_node(nodes: &NodeMap<'_>, param: &Param) -> bool
 fn has_class(nodes: &NodeMap<'_>, param: &Param) -> bool
     ensures { result ≡ option_map_or (spec.is_of_kind param.now) (node_named nodes.now param.now.name.text) true }
 {
-    match nodes.named(&param.name.text) {
+    match nodes.find(param.name.text.as_str()) {
         Some(node) => node.class.text == param.kind.text,
         None => true,
     }
