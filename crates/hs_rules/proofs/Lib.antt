@@ -1,3 +1,4 @@
 pub mod Classes
 pub mod ByName
 pub mod Failing
+pub mod Slots

@@ -8,3 +8,4 @@ pub mod SecondPass
 pub mod Statements
 pub mod Said
 pub mod ThirdPass
+pub mod Written

@@ -10,6 +10,7 @@ mod nodes;
 mod scope;
 mod second_pass;
 mod statements;
+mod written;
 mod edges;
 mod fault;
 mod first_pass;
