@@ -1,5 +1,5 @@
 -- Slots that are set, with one more.
-use Rattle.std.proofs.Common.{ℕ, ◌≡◌, ◌++◌, ◌∷◌, [], ◌&&◌, ◌||◌, List, Bool, true, false, cond, OnOk, Option, Some, None, Result, Ok, Err, refl, sym, ap, ◌∙◌, Bor}
+use Rattle.std.proofs.Common.{ℕ, ◌≡◌, ◌++◌, ◌∷◌, [], ◌&&◌, ◌||◌, List, Bool, true, false, cond, OnOk, Option, Some, Result, Ok, Err, refl, sym, ap, ◌∙◌, Bor}
 use Rattle.std.proofs.lemmas.Bool.{false≢true}
 use Rattle.std.proofs.lemmas.List.Folds.{list_any-append}
 use Rattle.std.proofs.lemmas.Map.Text.{btree_map_updates_str}

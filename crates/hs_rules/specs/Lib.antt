@@ -9,3 +9,4 @@ pub mod Statements
 pub mod Said
 pub mod ThirdPass
 pub mod Written
+pub mod Depths

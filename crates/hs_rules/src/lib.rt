@@ -10,6 +10,7 @@ mod nodes;
 mod scope;
 mod second_pass;
 mod statements;
+mod third_pass;
 mod written;
 mod edges;
 mod fault;
