@@ -10,3 +10,5 @@ pub mod Said
 pub mod ThirdPass
 pub mod Written
 pub mod Depths
+pub mod FourthPass
+pub mod Faults

@@ -5,6 +5,7 @@
 //! ([`nodes`]), which the passes look into by name.
 #![tactic(auto)]
 
+mod limits;
 mod name_map;
 mod nodes;
 mod scope;

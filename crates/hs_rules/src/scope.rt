@@ -18,6 +18,7 @@ use std::alloc::Global;
 
 /// What names stand for in this part of a rule. Their numbers play no role for faults: a node goes by
 /// its class's.
+#[derive(Clone, Copy)]
 pub struct NamesFrom<'a> {
     pub meta: &'a Meta,
     pub params: &'a ParamMap<'a>,

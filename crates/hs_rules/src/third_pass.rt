@@ -154,3 +154,30 @@ fn statement_right<'a>(
         Saying::Where { word, test } => where_right(alloc, names, *word, test),
     }
 }
+
+/// Whether all expressions of the statements nest few, or the first fault of the statements.
+pub fn statements_right<'a>(
+    alloc: Global,
+    meta: &'a Meta,
+    params: &'a ParamMap<'a>,
+    nodes: &'a NodeMap<'a>,
+    statements: &[Statement<'a>],
+) -> Result<bool, Failure<RuleFault>>
+    requires whole { All IsWhole statements.now }
+    ensures { GivesWhere (λ flat. flat ≡ list_all (is_flat meta.now params.now nodes.now) statements.now) result
+        (verdict (spec.third_pass meta.now params.now nodes.now [] statements.now)) }
+{
+    let mut written = Written::new(alloc);
+    let mut flat = true;
+    for statement in statements {
+        let names = NamesFrom {
+            meta,
+            params,
+            nodes,
+            home: statement.home,
+        };
+        let one = statement_right(alloc, &names, &mut written, &statement.saying)?;
+        flat = flat && one;
+    }
+    Ok(flat)
+}

@@ -1,0 +1,44 @@
+-- All faults of rules, in the order in which they are told: rule by rule, and in each rule pass by pass.
+use Rattle.std.specs.Prelude.{List, [], ◌∷◌, ◌++◌, length, nat_le}
+use Rattle.hs_expr.specs.Verdict.{fault_if}
+use Rattle.hs_text.specs.declared.syntax.Definition.{Definition}
+use Rattle.hs_text.specs.declared.syntax.Definition.TheVariants as definition
+use Rattle.hs_text.specs.declared.syntax.Rule.{Rule}
+use Rattle.hs_types.specs.declared.meta.Metamodel.{Metamodel}
+use Rattle.hs_rules.specs.declared.fault.RuleFault.{RuleFault}
+use Rattle.hs_rules.specs.declared.fault.RuleFaultKind.TheVariants as kind
+use Rattle.hs_rules.specs.FirstPass.{first_pass, is_again}
+use Rattle.hs_rules.specs.FourthPass.{fourth_pass}
+use Rattle.hs_rules.specs.Nodes.{declared_nodes}
+use Rattle.hs_rules.specs.Places.{fault_at}
+use Rattle.hs_rules.specs.SecondPass.{second_pass}
+use Rattle.hs_rules.specs.Statements.{statements}
+use Rattle.hs_rules.specs.ThirdPass.{third_pass}
+
+-- What the passes behind the first find.
+abbrev pub later_passes : Metamodel → Rule → List RuleFault
+later_passes m rule =
+    second_pass (declared_nodes rule.items) rule.params
+    ++ (third_pass m rule.params (declared_nodes rule.items) [] (statements rule.items)
+    ++ fourth_pass m rule)
+
+-- What the four passes find.
+abbrev pub faults_in_rule : Metamodel → Rule → List RuleFault
+faults_in_rule m rule = first_pass m rule ++ later_passes m rule
+
+-- A rule behind those before: there are at most 64, and each has a name of its own.
+abbrev pub faults_of_rule : Metamodel → List Rule → Rule → List RuleFault
+faults_of_rule m before rule =
+    fault_if (nat_le 64 (length before)) (fault_at rule.name.span kind.Limit)
+    ++ (fault_if (is_again (λ other. other.name) before rule.name) (fault_at rule.name.span kind.Twice)
+    ++ faults_in_rule m rule)
+
+-- The faults of the rules among these definitions, behind the rules before.
+abbrev pub faults_behind : Metamodel → List Rule → List Definition → List RuleFault
+faults_behind m before [] = []
+faults_behind m before (definition.Rule rule ∷ definitions) = faults_of_rule m before rule ++ faults_behind m (before ++ rule ∷ []) definitions
+faults_behind m before (definition.Unit unit ∷ definitions) = faults_behind m before definitions
+
+-- The faults of all rules of a text.
+abbrev pub faults_of_rules : Metamodel → List Definition → List RuleFault
+faults_of_rules m definitions = faults_behind m [] definitions
