@@ -15,7 +15,11 @@ pub fails_behind : {F : Type 0} (failure : Failure F) (a b : List F) → verdict
 fails_behind (Fault fault) a b none e = verdict-append-ok a b none ∙ e
 fails_behind NoMemory a b none e = tt
 
-pub ruleset fails = (fails_in_front, fails_behind)
+pub given_behind : {F : Type 0} (answer : Result (Unit {0}) (Failure F)) (a b : List F) → verdict a ≡ Ok tt → Gives answer (verdict b) → Gives answer (verdict (a ++ b))
+given_behind (Ok done) a b none e = verdict-append-ok a b none ∙ e
+given_behind (Err failure) a b none e = fails_behind failure a b none e
+
+pub ruleset fails = (fails_in_front, fails_behind, given_behind)
 
 -- The failure at item i is that of the whole list, where the items before have no fault.
 pub fails_here : {X F : Type 0} (finds : ℕ → X → List F) (xs : List X) (i : ℕ) (x : X) (failure : Failure F) (whole : Result (Unit {0}) F) →

@@ -1,4 +1,6 @@
 pub mod Classes
 pub mod ByName
 pub mod Failing
+pub mod Last
 pub mod Slots
+pub mod Whole

@@ -7,7 +7,7 @@ use Rattle.hs_text.specs.declared.syntax.Rule.{Rule}
 use Rattle.hs_types.specs.declared.meta.Metamodel.{Metamodel}
 use Rattle.hs_rules.specs.declared.fault.RuleFault.{RuleFault}
 use Rattle.hs_rules.specs.declared.fault.RuleFaultKind.TheVariants as kind
-use Rattle.hs_rules.specs.FirstPass.{first_pass, is_again}
+use Rattle.hs_rules.specs.FirstPass.{faults_of_nodes, faults_of_params, is_again}
 use Rattle.hs_rules.specs.FourthPass.{fourth_pass}
 use Rattle.hs_rules.specs.Nodes.{declared_nodes}
 use Rattle.hs_rules.specs.Places.{fault_at}
@@ -15,16 +15,17 @@ use Rattle.hs_rules.specs.SecondPass.{second_pass}
 use Rattle.hs_rules.specs.Statements.{statements}
 use Rattle.hs_rules.specs.ThirdPass.{third_pass}
 
+-- What the last two passes find.
+abbrev pub last_passes : Metamodel → Rule → List RuleFault
+last_passes m rule = third_pass m rule.params (declared_nodes rule.items) [] (statements rule.items) ++ fourth_pass m rule
+
 -- What the passes behind the first find.
 abbrev pub later_passes : Metamodel → Rule → List RuleFault
-later_passes m rule =
-    second_pass (declared_nodes rule.items) rule.params
-    ++ (third_pass m rule.params (declared_nodes rule.items) [] (statements rule.items)
-    ++ fourth_pass m rule)
+later_passes m rule = second_pass (declared_nodes rule.items) rule.params ++ last_passes m rule
 
--- What the four passes find.
+-- What the four passes find; the first has the parameters and then the nodes.
 abbrev pub faults_in_rule : Metamodel → Rule → List RuleFault
-faults_in_rule m rule = first_pass m rule ++ later_passes m rule
+faults_in_rule m rule = faults_of_params m rule.params ++ (faults_of_nodes m (declared_nodes rule.items) ++ later_passes m rule)
 
 -- A rule behind those before: there are at most 64, and each has a name of its own.
 abbrev pub faults_of_rule : Metamodel → List Rule → Rule → List RuleFault

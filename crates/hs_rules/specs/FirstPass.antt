@@ -44,12 +44,9 @@ param_faults m before param = fault_if (is_again (λ other. other.name) before p
 abbrev pub node_faults : Metamodel → List DeclaredNode → DeclaredNode → List RuleFault
 node_faults m before node = fault_if (is_again (λ other. other.name) before node.name) (fault_at node.name.span kind.Twice) ++ class_faults m (is_created node.mark) node.class
 
+-- What the first pass finds, parameter by parameter and then node by node.
 abbrev pub faults_of_params : Metamodel → List Param → List RuleFault
 faults_of_params m params = each (λ i param. param_faults m (take i params) param) params
 
 abbrev pub faults_of_nodes : Metamodel → List DeclaredNode → List RuleFault
 faults_of_nodes m nodes = each (λ i node. node_faults m (take i nodes) node) nodes
-
--- What the first pass finds.
-abbrev pub first_pass : Metamodel → Rule → List RuleFault
-first_pass m rule = faults_of_params m rule.params ++ faults_of_nodes m (declared_nodes rule.items)

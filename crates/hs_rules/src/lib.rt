@@ -8,6 +8,7 @@
 mod limits;
 mod name_map;
 mod nodes;
+mod rule;
 mod scope;
 mod second_pass;
 mod statements;

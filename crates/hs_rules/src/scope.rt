@@ -19,14 +19,14 @@ use std::alloc::Global;
 /// What names stand for in this part of a rule. Their numbers play no role for faults: a node goes by
 /// its class's.
 #[derive(Clone, Copy)]
-pub struct NamesFrom<'a> {
-    pub meta: &'a Meta,
-    pub params: &'a ParamMap<'a>,
-    pub nodes: &'a NodeMap<'a>,
+pub struct NamesFrom<'s, 'p, 'n> {
+    pub meta: &'s Meta,
+    pub params: &'s ParamMap<'p>,
+    pub nodes: &'s NodeMap<'n>,
     pub home: Home,
 }
 
-impl<'a> Scope for NamesFrom<'a> {
+impl<'s, 'p, 'n> Scope for NamesFrom<'s, 'p, 'n> {
     ghost use Rattle.hs_rules.specs.ThirdPass as spec;
 
     ghost names = { λ scope. spec.names_from scope.meta.now scope.params.now scope.nodes.now scope.home };
@@ -86,7 +86,7 @@ fn kind_of_wrong(wrong: Wrong) -> RuleFaultKind
 /// The expression as it is checked, or its first fault.
 pub fn expr_right(
     alloc: Global,
-    names: &NamesFrom<'_>,
+    names: &NamesFrom<'_, '_, '_>,
     expr: &NameExpr,
 ) -> Result<Checked, Failure<RuleFault>>
     requires one { is_some (tree_of expr.now.pieces) ≡ true }

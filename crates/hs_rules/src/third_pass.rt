@@ -47,7 +47,7 @@ fn same_kind(one: Kind, other: Kind) -> bool
 #[tactic(auto, unfolding(crate::specs::ThirdPass::set_checked))]
 fn set_right(
     alloc: Global,
-    names: &NamesFrom<'_>,
+    names: &NamesFrom<'_, '_, '_>,
     written: &Written<'_>,
     node: &Name,
     attribute: &Name,
@@ -87,7 +87,7 @@ fn set_right(
 #[tactic(auto, unfolding(crate::specs::ThirdPass::where_checked))]
 fn where_right(
     alloc: Global,
-    names: &NamesFrom<'_>,
+    names: &NamesFrom<'_, '_, '_>,
     word: Span,
     test: &NameExpr,
 ) -> Result<bool, Failure<RuleFault>>
@@ -108,7 +108,7 @@ fn where_right(
 /// that are set.
 fn statement_right<'a>(
     alloc: Global,
-    names: &NamesFrom<'_>,
+    names: &NamesFrom<'_, '_, '_>,
     written: &mut Written<'a>,
     saying: &Saying<'a>,
 ) -> Result<bool, Failure<RuleFault>>
@@ -158,9 +158,9 @@ fn statement_right<'a>(
 /// Whether all expressions of the statements nest few, or the first fault of the statements.
 pub fn statements_right<'a>(
     alloc: Global,
-    meta: &'a Meta,
-    params: &'a ParamMap<'a>,
-    nodes: &'a NodeMap<'a>,
+    meta: &Meta,
+    params: &ParamMap<'_>,
+    nodes: &NodeMap<'_>,
     statements: &[Statement<'a>],
 ) -> Result<bool, Failure<RuleFault>>
     requires whole { All IsWhole statements.now }
