@@ -34,11 +34,19 @@ faults_of_rule m before rule =
     ++ (fault_if (is_again (λ other. other.name) before rule.name) (fault_at rule.name.span kind.Twice)
     ++ faults_in_rule m rule)
 
+abbrev pub faults_of_definition : Metamodel → List Rule → Definition → List RuleFault
+faults_of_definition m before (definition.Rule rule) = faults_of_rule m before rule
+faults_of_definition m before (definition.Unit unit) = []
+
+-- The rule that a definition is, if it is one.
+abbrev pub rule_of : Definition → List Rule
+rule_of (definition.Rule rule) = rule ∷ []
+rule_of (definition.Unit unit) = []
+
 -- The faults of the rules among these definitions, behind the rules before.
 abbrev pub faults_behind : Metamodel → List Rule → List Definition → List RuleFault
 faults_behind m before [] = []
-faults_behind m before (definition.Rule rule ∷ definitions) = faults_of_rule m before rule ++ faults_behind m (before ++ rule ∷ []) definitions
-faults_behind m before (definition.Unit unit ∷ definitions) = faults_behind m before definitions
+faults_behind m before (definition ∷ definitions) = faults_of_definition m before definition ++ faults_behind m (before ++ rule_of definition) definitions
 
 -- The faults of all rules of a text.
 abbrev pub faults_of_rules : Metamodel → List Definition → List RuleFault

@@ -12,3 +12,4 @@ pub mod Written
 pub mod Depths
 pub mod FourthPass
 pub mod Faults
+pub mod SeenRules

@@ -5,7 +5,7 @@ ghost use Rattle.hs_rules.specs.Named.{Knows, first_named};
 
 use crate::nodes::DeclaredNode;
 use hs_expr::Name;
-use hs_text::Param;
+use hs_text::{Param, Rule};
 use std::alloc::{AllocError, Global};
 use std::collections::BTreeMap;
 
@@ -21,6 +21,14 @@ pub trait Named {
 
 impl Named for Param {
     ghost named = { λ param. param.name };
+
+    fn name(&self) -> &Name {
+        &self.name
+    }
+}
+
+impl Named for Rule {
+    ghost named = { λ rule. rule.name };
 
     fn name(&self) -> &Name {
         &self.name

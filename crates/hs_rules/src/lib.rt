@@ -9,6 +9,7 @@ mod limits;
 mod name_map;
 mod nodes;
 mod rule;
+mod rules;
 mod scope;
 mod second_pass;
 mod statements;
@@ -21,4 +22,5 @@ mod known;
 mod names;
 
 pub use nodes::{DeclaredNode, Home};
+pub use rules::check_rules;
 pub use fault::{RuleFault, RuleFaultKind};
