@@ -42,9 +42,9 @@ pub known_more : {T : Type 0} (name_of : T → Name) (items : List T) (item : T)
 known_more name_of items item at known next knows is new updates = λ name.
     ap option_copied (btree_map_updates_str (name_of item).text known next (Some at) updates name)
     ∙ one_more (same_text (name_of item).text name) (same_text name (name_of item).text) (first_named name_of items name) item at (get_by (λ k. slice_cmp nat_cmp name k.now) known)
-        (nat_list_eq_equiv.symm (name_of item).text name)
-        (λ e. absent (first_named name_of items name) (ap (λ t. is_some (first_named name_of items t)) (sym ((bytes_eq-Decides (name_of item).text name).0 e)) ∙ new))
-        is (knows name)
+    (nat_list_eq_equiv.symm (name_of item).text name)
+    (λ e. absent (first_named name_of items name) (ap (λ t. is_some (first_named name_of items t)) (sym ((bytes_eq-Decides (name_of item).text name).0 e)) ∙ new))
+    is (knows name)
     ∙ sym (find-append (λ other. same_text name (name_of other).text) items (item ∷ []))
 
 -- What was there, told from what wasn't.

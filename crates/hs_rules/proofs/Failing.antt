@@ -26,7 +26,7 @@ pub fails_here : {X F : Type 0} (finds : ℕ → X → List F) (xs : List X) (i 
     i < length xs → get_or xs i x ≡ x → verdict (each_from finds i (drop i xs)) ≡ whole → Fails failure (verdict (finds i x)) → Fails failure whole
 fails_here finds xs i x failure whole h is rest e =
     subst (λ told. Fails failure told) (ap verdict (sym (each_from-drop finds xs i x h)) ∙ rest)
-        (subst (λ y. Fails failure (verdict (finds i y ++ each_from finds (i + 1) (drop (i + 1) xs)))) (sym is) (fails_in_front failure (finds i x) (each_from finds (i + 1) (drop (i + 1) xs)) e))
+    (subst (λ y. Fails failure (verdict (finds i y ++ each_from finds (i + 1) (drop (i + 1) xs)))) (sym is) (fails_in_front failure (finds i x) (each_from finds (i + 1) (drop (i + 1) xs)) e))
 
 -- What a `?` hands on is the failure itself.
 pub handed_on : {A F : Type 0} (Holds : A → Type 0) (result : Result A (Failure F)) (failure : Failure F) (told : Result (Unit {0}) F) →

@@ -27,8 +27,8 @@ pub last_told : (m : Metamodel) (rule : Rule) (params : List Param) (nodes map :
     Gives answer (verdict (last_passes m rule))
 last_told m rule params nodes map said kept flat answer params_are map_is nodes_are said_is kept_is none flat_is told =
     given_behind answer (third_pass m rule.params (declared_nodes rule.items) [] (statements rule.items)) (fourth_pass m rule)
-        (ap verdict (sym third_is) ∙ none)
-        (subst (λ meant. Gives answer meant) (ap verdict fourth_is) told)
+    (ap verdict (sym third_is) ∙ none)
+    (subst (λ meant. Gives answer meant) (ap verdict fourth_is) told)
   where
     third_is : third_pass m params map [] said ≡ third_pass m rule.params (declared_nodes rule.items) [] (statements rule.items)
     third_is = ap (λ (p : List Param). third_pass m p map [] said) params_are
@@ -39,6 +39,6 @@ last_told m rule params nodes map said kept flat answer params_are map_is nodes_
     fourth_is = ap (λ (n : List DeclaredNode). fault_if (not (sizes_fit rule.params (blocks rule.items) n kept && flat)) (fault_at rule.name.span kind.Limit)) nodes_are
         ∙ ap (λ (s : List Statement). fault_if (not (sizes_fit rule.params (blocks rule.items) (declared_nodes rule.items) s && flat)) (fault_at rule.name.span kind.Limit)) kept_is
         ∙ ap (λ (b : Bool). fault_if (not (sizes_fit rule.params (blocks rule.items) (declared_nodes rule.items) (statements rule.items) && b)) (fault_at rule.name.span kind.Limit)) (flat_is
-            ∙ ap (λ (p : List Param). list_all (is_flat m p map) said) params_are
-            ∙ ap (λ (n : List DeclaredNode). list_all (is_flat m rule.params n) said) (map_is ∙ nodes_are)
-            ∙ ap (λ (s : List Statement). list_all (is_flat m rule.params (declared_nodes rule.items)) s) said_is)
+        ∙ ap (λ (p : List Param). list_all (is_flat m p map) said) params_are
+        ∙ ap (λ (n : List DeclaredNode). list_all (is_flat m rule.params n) said) (map_is ∙ nodes_are)
+        ∙ ap (λ (s : List Statement). list_all (is_flat m rule.params (declared_nodes rule.items)) s) said_is)

@@ -59,9 +59,9 @@ pub slot_more : (node : List ℕ) (at : Bor (List ℕ)) (old new : BTreeMap (Bor
 slot_more node at old new slots has more = λ name attribute.
     ap (list_any (λ (other : Bor (List ℕ)). same_text attribute other.now)) (more name)
     ∙ more_here (same_text node name) (same_text name node) (is_set slots name attribute) (attributes_in old name) (attributes_in old node) at attribute
-        (nat_list_eq_equiv.symm node name)
-        (λ e. ap (λ n. list_any (λ (other : Bor (List ℕ)). same_text attribute other.now) (attributes_in old n)) ((bytes_eq-Decides node name).0 e) ∙ has name attribute)
-        (has name attribute)
+    (nat_list_eq_equiv.symm node name)
+    (λ e. ap (λ n. list_any (λ (other : Bor (List ℕ)). same_text attribute other.now) (attributes_in old n)) ((bytes_eq-Decides node name).0 e) ∙ has name attribute)
+    (has name attribute)
     ∙ sym (list_any-append (λ (slot : Slot). same_text name slot.node && same_text attribute slot.attribute) slots (record { node = node; attribute = at.now } ∷ []))
 
 pub on_ok : {A E P Q : Type 0} (r : Result A E) → (P → Q) → OnOk r P → OnOk r Q

@@ -5,22 +5,24 @@
 //! ([`nodes`]), which the passes look into by name.
 #![tactic(auto)]
 
+mod edges;
+mod fault;
+mod first_pass;
+mod known;
 mod limits;
 mod name_map;
+mod names;
 mod nodes;
 mod rule;
 mod rules;
 mod scope;
 mod second_pass;
 mod statements;
+#[cfg(test)]
+mod tests;
 mod third_pass;
 mod written;
-mod edges;
-mod fault;
-mod first_pass;
-mod known;
-mod names;
 
+pub use fault::{RuleFault, RuleFaultKind};
 pub use nodes::{DeclaredNode, Home};
 pub use rules::check_rules;
-pub use fault::{RuleFault, RuleFaultKind};

@@ -116,7 +116,10 @@ fn has_few(nodes: &[DeclaredNode], statements: &[Statement<'_>], part: Home) -> 
 fn count_nodes(nodes: &[DeclaredNode], part: Home) -> usize
     ensures { result ≡ length (filter (λ node. same_home part node.home) nodes.now) }
 {
-    nodes.iter().filter(|node| same_home(part, node.home)).count()
+    nodes
+        .iter()
+        .filter(|node| same_home(part, node.home))
+        .count()
 }
 
 fn count_edges(statements: &[Statement<'_>], part: Home) -> usize

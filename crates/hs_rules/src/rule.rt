@@ -110,10 +110,7 @@ fn limits_right(
 {
     let blocks = blocks(alloc, rule.items.as_slice())?;
     let keeps = keeps_limits(rule, blocks.as_slice(), nodes, statements, flat);
-    demand(
-        keeps,
-        fault_at(rule.name.span, RuleFaultKind::Limit),
-    )
+    demand(keeps, fault_at(rule.name.span, RuleFaultKind::Limit))
 }
 
 fn keeps_limits(

@@ -7,8 +7,8 @@ ghost use Rattle.hs_rules.specs.Names.{node_named};
 ghost use Rattle.hs_rules.specs.SecondPass as spec;
 
 use crate::fault::{RuleFault, RuleFaultKind, fault_at};
-use crate::names::data_named;
 use crate::name_map::NodeMap;
+use crate::names::data_named;
 use crate::nodes::{DeclaredNode, Home};
 use hs_expr::{check_each, fault_if};
 use hs_text::{Direction, Mark, Param};
@@ -17,10 +17,7 @@ use hs_text::{Direction, Mark, Param};
 pub fn params_fit(nodes: &NodeMap<'_>, params: &[Param]) -> Result<(), RuleFault>
     ensures { result ≡ verdict (spec.second_pass nodes.now params.now) }
 {
-    check_each(
-        params,
-        &|_: usize, param: &Param| param_fits(nodes, param),
-    )
+    check_each(params, &|_: usize, param: &Param| param_fits(nodes, param))
 }
 
 fn param_fits(nodes: &NodeMap<'_>, param: &Param) -> Result<(), RuleFault>

@@ -26,7 +26,10 @@ pub enum Saying<'a> {
         value: &'a NameExpr,
     },
     /// The condition, and where the word `where` stands.
-    Where { word: Span, test: &'a NameExpr },
+    Where {
+        word: Span,
+        test: &'a NameExpr,
+    },
 }
 
 /// An edge, a set or a condition, with the part of the rule that it stands in.
@@ -151,11 +154,7 @@ fn add_of_element<'a>(
     }
 }
 
-fn add<'a>(
-    all: &mut List<Statement<'a>>,
-    home: Home,
-    saying: Saying<'a>,
-) -> Result<(), AllocError>
+fn add<'a>(all: &mut List<Statement<'a>>, home: Home, saying: Saying<'a>) -> Result<(), AllocError>
     ensures { OnOk result (all.new ≡ all.old ++ said home saying.entry ∷ []) }
 {
     all.push(Statement { home, saying })?;

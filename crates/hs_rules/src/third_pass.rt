@@ -143,12 +143,7 @@ fn statement_right<'a>(
             value,
         } => {
             let flat = set_right(alloc, names, written, node, attribute, value)?;
-            set_slot(
-                alloc,
-                written,
-                node.text.as_str(),
-                attribute.text.as_str(),
-            )?;
+            set_slot(alloc, written, node.text.as_str(), attribute.text.as_str())?;
             Ok(flat)
         }
         Saying::Where { word, test } => where_right(alloc, names, *word, test),

@@ -59,11 +59,7 @@ fn add_attribute<'a>(
 }
 
 /// Takes the attributes of the node out.
-fn take_attributes<'a>(
-    alloc: Global,
-    written: &mut Written<'a>,
-    node: &str,
-) -> List<&'a str>
+fn take_attributes<'a>(alloc: Global, written: &mut Written<'a>, node: &str) -> List<&'a str>
     ensures taken { result ≡ attributes_in written.old node.now }
     ensures left { (name : List ℕ) → attributes_in written.new name
         ≡ cond (same_text node.now name) [] (attributes_in written.old name) }

@@ -15,6 +15,6 @@ loop-definition-preserved c =
       seen = subst (λ (rules : List Rule). HasSeen c.definition_right.new.seen rules) (sym more) (c.in_ok-definition_right.ensures.seen before c.loop-definition.invariant.seen);
       rest = ap (λ (rules : List Rule). verdict (faults_behind c.args.meta.now rules (drop (c.loop-definition.definition-index + 1) c.args.definitions.now))) more
           ∙ definition_next c.args.meta.now before c.args.definitions.now c.loop-definition.definition-index c.definition-item.result (verdict (faults_of_rules c.args.meta.now c.args.definitions.now))
-              c.loop-definition-test.true (sym c.definition-item.is) c.loop-definition.invariant.rest
-              (c.in_ok-definition_right.ensures.told before c.loop-definition.invariant.seen);
+          c.loop-definition-test.true (sym c.definition-item.is) c.loop-definition.invariant.rest
+          (c.in_ok-definition_right.ensures.told before c.loop-definition.invariant.seen);
     }
