@@ -1,0 +1,57 @@
+-- Maps of items by their names, with one more item.
+use Rattle.std.proofs.Common.{ℕ, ◌≡◌, ◌++◌, ◌∷◌, [], List, Bool, true, false, cond, not, is_some, Option, Some, None, refl, sym, ap, ◌∙◌, Bor}
+use Rattle.std.proofs.lemmas.Bool.{false≢true}
+use Rattle.std.proofs.lemmas.List.Folds.{find-append}
+use Rattle.std.proofs.lemmas.Map.Text.{btree_map_updates_str}
+use Rattle.std.proofs.lemmas.Slice.Eq.{bytes_eq-Decides}
+use Rattle.std.specs.BTreeMap.{BTreeMap, UpdatesBy, get_by}
+use Rattle.std.specs.Cmp.Lexicographic.{nat_list_eq_equiv, slice_cmp}
+use Rattle.std.specs.Option.{option_copied, option_or}
+use Rattle.std.specs.Ordering.{nat_cmp}
+use Rattle.hs_expr.specs.declared.Name.{Name}
+use Rattle.hs_types.specs.Lists.{same_text}
+use Rattle.hs_rules.specs.Named.{Knows, first_named}
+
+some-copied : {T : Type 0} (found : Option (Bor T)) → is_some (option_copied found) ≡ is_some found
+some-copied None = refl
+some-copied (Some x) = refl
+
+-- What the map has for a name is there exactly where an item has it.
+pub known_there : {T : Type 0} (name_of : T → Name) (items : List T) (known : BTreeMap (Bor (List ℕ)) (Bor T)) (name : List ℕ) (found : Option (Bor T)) →
+    Knows name_of known items → found ≡ get_by (λ k. slice_cmp nat_cmp name k.now) known → is_some found ≡ is_some (first_named name_of items name)
+known_there name_of items known name found knows e = ap is_some e ∙ sym (some-copied (get_by (λ k. slice_cmp nat_cmp name k.now) known)) ∙ ap is_some (knows name)
+
+one_more : {T : Type 0} (here there : Bool) (before : Option T) (item : T) (at : Bor T) (old : Option (Bor T)) →
+    here ≡ there → (here ≡ true → before ≡ None) → at.now ≡ item → option_copied old ≡ before →
+    option_copied (cond here (Some at) old) ≡ option_or before (cond there (Some item) None)
+one_more true true before item at old e none is copied = ap Some is ∙ sym (ap (λ b. option_or b (Some item)) (none refl))
+one_more true false before item at old e none is copied = absurd (false≢true (sym e))
+one_more false true before item at old e none is copied = absurd (false≢true e)
+one_more false false None item at old e none is copied = copied
+one_more false false (Some x) item at old e none is copied = copied
+
+absent : {T : Type 0} (found : Option T) → is_some found ≡ false → found ≡ None
+absent None e = refl
+absent (Some x) e = absurd (false≢true (sym e))
+
+-- With a new name the map knows one more item.
+pub known_more : {T : Type 0} (name_of : T → Name) (items : List T) (item : T) (at : Bor T) (known next : BTreeMap (Bor (List ℕ)) (Bor T)) →
+    Knows name_of known items → at.now ≡ item → is_some (first_named name_of items (name_of item).text) ≡ false →
+    UpdatesBy (λ x y. slice_cmp nat_cmp x.now y.now) (λ k. slice_cmp nat_cmp (name_of item).text k.now) known next (Some at) →
+    Knows name_of next (items ++ item ∷ [])
+known_more name_of items item at known next knows is new updates = λ name.
+    ap option_copied (btree_map_updates_str (name_of item).text known next (Some at) updates name)
+    ∙ one_more (same_text (name_of item).text name) (same_text name (name_of item).text) (first_named name_of items name) item at (get_by (λ k. slice_cmp nat_cmp name k.now) known)
+    (nat_list_eq_equiv.symm (name_of item).text name)
+    (λ e. absent (first_named name_of items name) (ap (λ t. is_some (first_named name_of items t)) (sym ((bytes_eq-Decides (name_of item).text name).0 e)) ∙ new))
+    is (knows name)
+    ∙ sym (find-append (λ other. same_text name (name_of other).text) items (item ∷ []))
+
+-- What was there, told from what wasn't.
+pub new_is : (old new there : Bool) → old ≡ not new → old ≡ there → new ≡ not there
+new_is old true there e f = ap not (sym e ∙ f)
+new_is old false there e f = ap not (sym e ∙ f)
+
+pub not_there : (new there : Bool) → new ≡ not there → new ≡ true → there ≡ false
+not_there new true e f = sym f ∙ e
+not_there new false e f = refl

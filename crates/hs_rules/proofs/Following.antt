@@ -1,0 +1,37 @@
+-- The rules of a text, definition by definition.
+use Rattle.std.proofs.Common.{ℕ, ◌+◌, ◌<◌, ◌≡◌, List, [], ◌∷◌, ◌++◌, drop, take, get_or, length, Result, Ok, ap, sym, ◌∙◌, refl}
+use Rattle.std.proofs.lemmas.Grind.{flat_map-append}
+use Rattle.std.proofs.lemmas.List.{drop_more, take_more}
+use Rattle.std.proofs.lemmas.List.Elements.{All-cons, All-nil}
+use Rattle.std.specs.List.{All, AllByRecursion, flat_map}
+use Rattle.hs_expr.specs.Verdict.{verdict}
+use Rattle.hs_expr.proofs.Verdicts.{verdict-append-ok}
+use Rattle.hs_text.specs.declared.syntax.Definition.{Definition}
+use Rattle.hs_text.specs.declared.syntax.Rule.{Rule}
+use Rattle.hs_types.specs.declared.meta.Metamodel.{Metamodel}
+use Rattle.hs_rules.specs.declared.fault.RuleFault.{RuleFault}
+use Rattle.hs_rules.specs.Faults.{faults_behind, faults_of_definition, rule_of}
+
+nothing_behind : {A : Type 0} (xs : List A) → xs ++ [] ≡ xs
+nothing_behind [] = refl
+nothing_behind (x ∷ xs) = ap (λ ys. x ∷ ys) (nothing_behind xs)
+
+-- The rules up to definition i, and behind it.
+pub rules_more : (definitions : List Definition) (i : ℕ) (d : Definition) → i < length definitions → get_or definitions i d ≡ d →
+    flat_map rule_of (take (i + 1) definitions) ≡ flat_map rule_of (take i definitions) ++ rule_of d
+rules_more definitions i d h is =
+    ap (flat_map rule_of) (take_more definitions i d h ∙ ap (λ y. take i definitions ++ y ∷ []) is)
+    ∙ flat_map-append rule_of (take i definitions) (d ∷ [])
+    ∙ ap (λ rules. flat_map rule_of (take i definitions) ++ rules) (nothing_behind (rule_of d))
+
+-- Behind definition i without fault, the faults of the rest stay.
+pub definition_next : (m : Metamodel) (before : List Rule) (definitions : List Definition) (i : ℕ) (d : Definition) (whole : Result (Unit {0}) RuleFault) →
+    i < length definitions → get_or definitions i d ≡ d → verdict (faults_behind m before (drop i definitions)) ≡ whole →
+    verdict (faults_of_definition m before d) ≡ Ok tt → verdict (faults_behind m (before ++ rule_of d) (drop (i + 1) definitions)) ≡ whole
+definition_next m before definitions i d whole h is rest none =
+    sym (verdict-append-ok (faults_of_definition m before d) (faults_behind m (before ++ rule_of d) (drop (i + 1) definitions)) none)
+    ∙ ap (λ ds. verdict (faults_behind m before ds)) (sym (drop_more definitions i d h ∙ ap (λ y. y ∷ drop (i + 1) definitions) is)) ∙ rest
+
+pub all_from : {A : Type 0} (P : A → Type 0) (xs : List A) → AllByRecursion P xs → All P xs
+all_from P [] fine = All-nil P
+all_from P (x ∷ xs) fine = All-cons P x xs fine.0 (all_from P xs fine.1)

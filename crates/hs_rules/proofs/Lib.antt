@@ -1,0 +1,7 @@
+pub mod Classes
+pub mod ByName
+pub mod Failing
+pub mod Following
+pub mod Last
+pub mod Slots
+pub mod Whole

@@ -1,0 +1,15 @@
+pub mod Answers
+pub mod Places
+pub mod Nodes
+pub mod Named
+pub mod Names
+pub mod FirstPass
+pub mod SecondPass
+pub mod Statements
+pub mod Said
+pub mod ThirdPass
+pub mod Written
+pub mod Depths
+pub mod FourthPass
+pub mod Faults
+pub mod SeenRules

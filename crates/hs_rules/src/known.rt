@@ -1,0 +1,64 @@
+//! Items by their names.
+
+ghost use Rattle.std.specs.Prelude.{◌≡◌, ◌++◌, ◌∷◌, [], ℕ, List, IfOk, not, is_some, true, option_copied};
+ghost use Rattle.hs_rules.specs.Named.{Knows, first_named};
+
+use crate::nodes::DeclaredNode;
+use hs_expr::Name;
+use hs_text::{Param, Rule};
+use std::alloc::{AllocError, Global};
+use std::collections::BTreeMap;
+
+/// Something with a name.
+pub trait Named {
+    ghost use Rattle.hs_expr.specs.declared.Name.{Name};
+
+    ghost named: { Self → Name };
+
+    fn name(&self) -> &Name
+        ensures { result.now ≡ Self.named self.now };
+}
+
+impl Named for Param {
+    ghost named = { λ param. param.name };
+
+    fn name(&self) -> &Name {
+        &self.name
+    }
+}
+
+impl Named for Rule {
+    ghost named = { λ rule. rule.name };
+
+    fn name(&self) -> &Name {
+        &self.name
+    }
+}
+
+impl Named for DeclaredNode {
+    ghost named = { λ node. node.name };
+
+    fn name(&self) -> &Name {
+        &self.name
+    }
+}
+
+/// Items by their names.
+pub type Known<'a, T> = BTreeMap<&'a str, &'a T>;
+
+/// Adds the item, and tells whether its name is new.
+pub fn add_named<'a, T: Named>(known: &mut Known<'a, T>, item: &'a T) -> Result<bool, AllocError>
+    ensures { (before : List T) → Knows T.named known.old before → IfOk result (λ is_new.
+        (is_new ≡ not (is_some (first_named T.named before (T.named item.now).text)))
+        × (is_new ≡ true → Knows T.named known.new (before ++ item.now ∷ []))) }
+{
+    let old = known.insert(item.name().text.as_str(), item)?;
+    Ok(old.is_none())
+}
+
+/// The first item of this name.
+pub fn find_named<'a, T: Named>(known: &Known<'a, T>, name: &str) -> Option<&'a T>
+    ensures { (items : List T) → Knows T.named known.now items → option_copied result ≡ first_named T.named items name.now }
+{
+    known.get(name).copied()
+}

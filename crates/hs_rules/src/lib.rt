@@ -1,0 +1,28 @@
+//! The faults of rules, over a metamodel.
+//!
+//! A rule is checked pass by pass, and what is told is the first fault in the order of the list that
+//! `specs/Faults.antt` gives. The nodes of a rule and of its blocks are taken as one list
+//! ([`nodes`]), which the passes look into by name.
+#![tactic(auto)]
+
+mod edges;
+mod fault;
+mod first_pass;
+mod known;
+mod limits;
+mod name_map;
+mod names;
+mod nodes;
+mod rule;
+mod rules;
+mod scope;
+mod second_pass;
+mod statements;
+#[cfg(test)]
+mod tests;
+mod third_pass;
+mod written;
+
+pub use fault::{RuleFault, RuleFaultKind};
+pub use nodes::{DeclaredNode, Home};
+pub use rules::check_rules;
