@@ -11,8 +11,8 @@ ghost use Rattle.hs_types.specs.Supertypes as closed;
 use crate::fault::{ModelFault, ModelFaultKind, ModelPlace};
 use crate::names::differ;
 use crate::raw::{RawAttribute, RawClass, RawReference};
-use hs_types::is_below;
 use hs_expr::{List, Text, check_each, fault_if};
+use hs_types::is_below;
 use std::alloc::{AllocError, Global};
 
 /// The most features of a class.

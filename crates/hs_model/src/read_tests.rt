@@ -52,12 +52,30 @@ fn a_metamodel_s_first_fault_has_its_path(rt: HostRuntime) -> Result<(), AllocEr
         (r#"{"classes":[],"zz":1,"b":2}"#, "/b form"),
         (r#"{"classes":[{}],"format":2}"#, "/classes/0/name form"),
         (r#"{"classes":[],"format":2}"#, "/format form"),
-        (r#"{"classes":[{"name":"A","attributes":[{"name":"n","type":"EInt","default":1.5}]}]}"#, "/classes/0/attributes/0/default form"),
-        (r#"{"classes":[{"name":"A","attributes":[{"name":"n","type":"EInt","default":null}]}]}"#, "/classes/0/attributes/0/default baddefault"),
-        (r#"{"classes":[{"name":"A","supers":["B"]},{"name":"B","supers":["A"]}]}"#, "/classes/0 supercycle"),
-        (r#"{"classes":[{"name":"A","supers":["B"]}]}"#, "/classes/0/supers/0 unknownsuper"),
-        (r#"{"classes":[{"name":"A"},{"name":"A"}]}"#, "/classes/1/name twice"),
-        (r#"{"classes":[{"name":"A","references":[{"name":"r","target":"A","lower":2}]}]}"#, "/classes/0/references/0 badbounds"),
+        (
+            r#"{"classes":[{"name":"A","attributes":[{"name":"n","type":"EInt","default":1.5}]}]}"#,
+            "/classes/0/attributes/0/default form",
+        ),
+        (
+            r#"{"classes":[{"name":"A","attributes":[{"name":"n","type":"EInt","default":null}]}]}"#,
+            "/classes/0/attributes/0/default baddefault",
+        ),
+        (
+            r#"{"classes":[{"name":"A","supers":["B"]},{"name":"B","supers":["A"]}]}"#,
+            "/classes/0 supercycle",
+        ),
+        (
+            r#"{"classes":[{"name":"A","supers":["B"]}]}"#,
+            "/classes/0/supers/0 unknownsuper",
+        ),
+        (
+            r#"{"classes":[{"name":"A"},{"name":"A"}]}"#,
+            "/classes/1/name twice",
+        ),
+        (
+            r#"{"classes":[{"name":"A","references":[{"name":"r","target":"A","lower":2}]}]}"#,
+            "/classes/0/references/0 badbounds",
+        ),
     ] {
         assert!(rt; reads_meta(rt.alloc(), meta, Some(fault))?, "{meta}");
     }
