@@ -1,11 +1,13 @@
 //! Bundles: a metamodel, a typed graph over it, a text of rules, and what is asked of them.
 //!
 //! [`read_bundle`] gives what a bundle's bytes hold, or its first fault, told at its path from the
-//! bundle.
+//! bundle; [`BundleFault::line`] is the line that tells it.
 #![tactic(auto)]
 
 mod fault;
 mod reading;
+#[cfg(test)]
+mod tests;
 
 pub use fault::BundleFault;
 pub use reading::{Bundle, read_bundle};
