@@ -2,8 +2,8 @@ use crate::plan;
 use hs_expr::{List, Text, Value};
 use hs_finding::only_adds;
 use hs_types::{
-    Class, DataType, End, Feature, FeatureKind, MadeEdge, Mark, Match, Meta, PatternEdge,
-    PatternNode, Rule, Shape,
+    Class, DataType, End, Feature, FeatureKind, MadeEdge, Mark, Match, Meta, Metamodel,
+    PatternEdge, PatternNode, Rule, Shape,
 };
 use std::alloc::{AllocError, Global};
 use std::test::Fail;
@@ -28,7 +28,7 @@ fn class(alloc: Global, name: &str, feature: u16) -> Result<Class, AllocError> {
 }
 
 /// Clients with accounts; an account has a balance, which is 5 at first.
-fn bank(alloc: Global) -> Result<Meta, AllocError> {
+fn bank(alloc: Global) -> Result<Option<Meta>, AllocError> {
     let accounts = Feature {
         owner: 0,
         name: Text::from_str(alloc, "accounts")?,
@@ -47,7 +47,7 @@ fn bank(alloc: Global) -> Result<Meta, AllocError> {
             default: Value::Int(5),
         },
     };
-    Ok(Meta {
+    let plain = Metamodel {
         format: 1,
         classes: list_of(
             alloc,
@@ -55,7 +55,8 @@ fn bank(alloc: Global) -> Result<Meta, AllocError> {
             class(alloc, "Account", 1)?,
         )?,
         features: list_of(alloc, accounts, balance)?,
-    })
+    };
+    Meta::new(alloc, plain)
 }
 
 fn node(alloc: Global, name: &str, class: u16, mark: Mark) -> Result<PatternNode, AllocError> {
@@ -113,7 +114,9 @@ fn found_at(alloc: Global, object: u32) -> Result<Match, AllocError> {
 #[test]
 fn plans_what_a_rule_makes(rt: HostRuntime) -> Result<(), Fail> {
     let alloc = rt.alloc();
-    let meta = bank(alloc)?;
+    let Some(meta) = bank(alloc)? else {
+        return Err(Fail::new("the supertypes are classes"));
+    };
     let rule = opens_two(alloc)?;
     let found = found_at(alloc, 7)?;
     if !only_adds(&rule) {

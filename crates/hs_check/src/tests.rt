@@ -1,6 +1,6 @@
 use crate::{RuleFault, read_rule};
 use hs_expr::{List, Text, Value};
-use hs_types::{Class, DataType, Feature, FeatureKind, Meta, Rule};
+use hs_types::{Class, DataType, Feature, FeatureKind, Meta, Metamodel, Rule};
 use std::alloc::{AllocError, Global};
 use std::test::Fail;
 
@@ -39,7 +39,7 @@ fn attribute(alloc: Global, owner: u16, name: &str) -> Result<Feature, AllocErro
 
 /// Client with the reference accounts to Account; Account with the attribute balance and the
 /// reference owner to Client; and a class whose name is a word of rules.
-fn bank(alloc: Global) -> Result<Meta, AllocError> {
+fn bank(alloc: Global) -> Result<Option<Meta>, AllocError> {
     let mut classes = List::new(alloc);
     classes.push(class(alloc, "Client", &[0])?)?;
     classes.push(class(alloc, "Account", &[1, 2])?)?;
@@ -48,11 +48,12 @@ fn bank(alloc: Global) -> Result<Meta, AllocError> {
     features.push(reference(alloc, 0, "accounts", 1)?)?;
     features.push(attribute(alloc, 1, "balance")?)?;
     features.push(reference(alloc, 1, "owner", 0)?)?;
-    Ok(Meta {
+    let plain = Metamodel {
         format: 1,
         classes,
         features,
-    })
+    };
+    Meta::new(alloc, plain)
 }
 
 fn has_more(rule: &Rule) -> bool {
@@ -87,7 +88,9 @@ fn shown(alloc: Global, rule: &Rule) -> Result<String, AllocError> {
 }
 
 fn answer(alloc: Global, text: &str) -> Result<String, AllocError> {
-    let meta = bank(alloc)?;
+    let Some(meta) = bank(alloc)? else {
+        return String::from_str(alloc, "no metamodel");
+    };
     match read_rule(alloc, &meta, text) {
         Ok(rule) => shown(alloc, &rule),
         Err(RuleFault::NotBuilt) => String::from_str(alloc, "not built"),
