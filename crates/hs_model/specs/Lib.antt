@@ -2,3 +2,4 @@ pub mod MetaForm
 pub mod Meta
 pub mod GraphForm
 pub mod Graph
+pub mod Written
