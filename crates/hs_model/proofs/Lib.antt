@@ -1,2 +1,5 @@
 pub mod Floats
+pub mod FormBack
 pub mod Lists
+pub mod NamesBack
+pub mod Sorted

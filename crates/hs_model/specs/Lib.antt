@@ -3,3 +3,4 @@ pub mod Meta
 pub mod GraphForm
 pub mod Graph
 pub mod Written
+pub mod Renumbered

@@ -26,3 +26,6 @@ pub use values::{
     Members, attrs_value, class_name, datum_value, feature_name, list_value, text_value,
     texts_value,
 };
+
+#[cfg(test)]
+mod tests;
