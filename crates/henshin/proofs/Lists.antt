@@ -1,31 +1,5 @@
-use Rattle.std.proofs.Common.{ℕ, ◌+◌, ◌<◌, ◌≤◌, ◌≡◌, ◌++◌, List, [], ◌∷◌, Bool, cond, Some, None, map, take, drop, length, get_or, arith, refl, Option, Bor, append_assoc, ◌↔◌, ap, sym, ◌∙◌}
-use Rattle.std.proofs.lemmas.Grind.{common_steps}
-use Rattle.std.proofs.lemmas.List.{take_more, drop_more, map-append}
-use Rattle.std.proofs.lemmas.List.Folds.{find-append}
-use Rattle.std.specs.List.{find}
-use Rattle.std.specs.Option.{option_or, option_map, unwrap_or}
-use Rattle.hs_types.specs.declared.graph.Object.{Object}
-
--- Where nothing is left, what was made so far is the whole.
-pub none_left : {A B : Type 0} (f : A → B) (made whole : List B) (xs : List A) (i : ℕ) → length xs ≤ i → made ++ map f (drop i xs) ≡ whole → made ≡ whole
-none_left f made whole xs i past all = grind (arith, common_steps)
-
--- One item more is made, and one fewer is left.
-pub one_more_made : {V A B : Type 0} (view : V → B) (f : A → B) (vs ws : List V) (v : V) (whole : List B) (xs : List A) (i : ℕ) (d : A) → i < length xs →
-    ws ≡ vs ++ v ∷ [] → view v ≡ f (get_or xs i d) → map view vs ++ map f (drop i xs) ≡ whole → map view ws ++ map f (drop (i + 1) xs) ≡ whole
-one_more_made view f vs ws v whole xs i d h pushed same all =
-    rw (pushed, map-append view vs (v ∷ []), append_assoc, same) (rw (drop_more xs i d h) at all)
-
--- The first that passes, of one item more.
-pub find_more : {X : Type 0} (p : X → Bool) (xs : List X) (i : ℕ) (d : X) → i < length xs →
-    find p (take (i + 1) xs) ≡ option_or (find p (take i xs)) (cond (p (get_or xs i d)) (Some (get_or xs i d)) None)
-find_more p xs i d h = rw (take_more xs i d h) (find-append p (take i xs) (get_or xs i d ∷ []))
-
--- The name of an object that was looked up by reference.
-pub named : (found : Option (Bor Object)) (object : Option Object) → option_map (λ o. o.now) found ≡ object →
-    unwrap_or (option_map (λ o. o.name) object) [] ≡ unwrap_or (option_map (λ o. o.now.name) found) []
-named None object e = rw (← e) refl
-named (Some o) object e = rw (← e) refl
+-- A list of one item.
+use Rattle.std.proofs.Common.{◌≡◌, ◌↔◌, ◌∙◌, List, [], ◌∷◌, map, length, get_or, ap, sym, arith}
 
 head_same : {B : Type 0} {y b : B} → y ∷ [] ≡ b ∷ [] → y ≡ b
 head_same e = cc

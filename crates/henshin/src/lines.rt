@@ -5,20 +5,20 @@ ghost use Rattle.serde_json.specs.Data.{Data, string, no_members};
 ghost use Rattle.serde_json.specs.View.{view, members_view};
 ghost use Rattle.serde_json.specs.Written.{has_float};
 ghost use Rattle.std.specs.List.{enumerate_from};
-ghost use Rattle.henshin.specs.ReportText.{with_members, object_data, list_data, number_data, value_data, arg_data, args_data, rule_name, class_name, feature_name, attrs_data, extension_data, gone_data, match_members, change_members, outcome_members, tried_members, what_members, entry_data, word_text, outs_data, reply_data, graph_data, line_of, lines_of, report_text};
+ghost use Rattle.hs_model.specs.Written.{with_members, object_data, list_data, value_data, class_name, feature_name, attrs_data, graph_data};
+ghost use Rattle.henshin.specs.ReportText.{number_data, arg_data, args_data, rule_name, extension_data, gone_data, match_members, change_members, outcome_members, tried_members, what_members, entry_data, word_text, outs_data, reply_data, line_of, lines_of, report_text};
 
-use crate::graph_line::graph_value;
 use hs_expr::{List, Text, Value as Datum};
+use hs_model::{
+    Members, attrs_value, class_name, datum_value, graph_value, list_value, text_value, texts_value,
+};
 use hs_session::{Out, Reply, Report, Word};
 use hs_types::{
-    Arg, Args, Entry, ExtensionNames, FeatureNo, Gone, Graph, MatchNames, Meta, NamedArg, Outcome,
-    RuleSet, Slot, Tried, What,
+    Arg, Args, Entry, ExtensionNames, Gone, Graph, MatchNames, Meta, NamedArg, Outcome, RuleSet,
+    Tried, What,
 };
-use serde_json::{Map, Value, json, put};
+use serde_json::{Value, json, put};
 use std::alloc::{AllocError, Global};
-
-/// The members of an object, by their keys.
-pub type Members = Map<String, Value>;
 
 /// The text of a report: a line for each entry, then for each reply, then for the graph.
 pub fn report_text(alloc: Global, rules: &RuleSet, report: &Report) -> Result<Text, AllocError>
@@ -73,41 +73,6 @@ fn add_line(alloc: Global, text: &mut String, value: &Value) -> Result<(), Alloc
     text.push('\n')
 }
 
-/// The list of what `one` makes of each item.
-pub fn list_value<T, F: Fn(&T) -> Result<Value, AllocError>>(
-    alloc: Global,
-    items: &List<T>,
-    one: &F,
-) -> Result<Value, AllocError>
-    requires { F.IsAlwaysCallable one.now }
-    ensures { (data_of : T → Data) → ((x : _) (r : _) → F.post one.now x r → IfOk r (λ v. view v ≡ data_of x.now))
-        → IfOk result (λ v. view v ≡ list_data data_of items.now) }
-{
-    let mut values = Vec::new(alloc);
-    for item in items.as_slice() {
-        values.push(one(item)?)?;
-    }
-    Ok(Value::Array(values))
-}
-
-pub fn text_value(alloc: Global, text: &Text) -> Result<Value, AllocError>
-    ensures { IfOk result (λ v. view v ≡ string text.now) }
-{
-    Value::try_from_str(alloc, text.as_str())
-}
-
-pub fn texts_value(alloc: Global, texts: &List<Text>) -> Result<Value, AllocError>
-    ensures { IfOk result (λ v. view v ≡ list_data string texts.now) }
-{
-    list_value(
-        alloc,
-        texts,
-        &|text: &Text| -> Result<Value, AllocError>
-            ensures { IfOk result (λ v. view v ≡ string text.now) }
-        { text_value(alloc, text) },
-    )
-}
-
 fn numbers_value(alloc: Global, numbers: &List<u32>) -> Result<Value, AllocError>
     ensures { IfOk result (λ v. view v ≡ list_data number_data numbers.now) }
 {
@@ -118,16 +83,6 @@ fn number_value(number: u32) -> Result<Value, AllocError>
     ensures { IfOk result (λ v. view v ≡ number_data number) }
 {
     Ok(Value::from(number))
-}
-
-fn datum_value(alloc: Global, datum: &Datum) -> Result<Value, AllocError>
-    ensures { IfOk result (λ v. view v ≡ value_data datum.now) }
-{
-    match datum {
-        Datum::Int(number) => Ok(Value::from(*number)),
-        Datum::Bool(truth) => Ok(Value::from(*truth)),
-        Datum::Text(text) => text_value(alloc, text),
-    }
 }
 
 fn arg_value(alloc: Global, arg: &Arg) -> Result<Value, AllocError>
@@ -335,45 +290,11 @@ fn gone_object_value(alloc: Global, meta: &Meta, object: &Gone) -> Result<Value,
     json!(in alloc; {"attrs": attrs, "class": class, "name": name})
 }
 
-pub fn attrs_value(alloc: Global, meta: &Meta, slots: &List<Slot>) -> Result<Value, AllocError>
-    ensures { IfOk result (λ v. view v ≡ attrs_data meta.now slots.now) }
-{
-    let mut members = Members::new(alloc);
-    for slot in slots.as_slice() {
-        let value = datum_value(alloc, &slot.value)?;
-        put(
-            &mut members,
-            alloc,
-            feature_name(meta, slot.attribute),
-            value,
-        )?;
-    }
-    Ok(Value::Object(members))
-}
-
 fn rule_name(rules: &RuleSet, rule: u16) -> &str
     ensures { result.now ≡ rule_name rules.now rule }
 {
     match rules.rules.get(usize::from(rule)) {
         Some(rule) => rule.name.as_str(),
-        None => "",
-    }
-}
-
-pub fn class_name(meta: &Meta, class: u16) -> &str
-    ensures { result.now ≡ class_name meta.now class }
-{
-    match meta.class(class) {
-        Some(class) => class.name.as_str(),
-        None => "",
-    }
-}
-
-pub fn feature_name(meta: &Meta, feature: FeatureNo) -> &str
-    ensures { result.now ≡ feature_name meta.now feature }
-{
-    match meta.feature(feature) {
-        Some(feature) => feature.name.as_str(),
         None => "",
     }
 }

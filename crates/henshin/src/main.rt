@@ -2,13 +2,11 @@
 //!
 //! [`once`](once::once) is the program over any source and sink; `main` hands it the real ones. The way
 //! of `apply`: the source is read to its end ([`reading`]), the bundle that the bytes are is read and
-//! its request run ([`serving`]), the report becomes a text ([`lines`], [`graph_line`]), and the text
-//! is written ([`writing`]).
+//! its request run ([`serving`]), the report becomes a text ([`lines`]), and the text is written
+//! ([`writing`]).
 #![tactic(auto)]
 
 mod fault;
-mod graph_line;
-mod index;
 mod lines;
 mod once;
 mod reading;

@@ -1,1 +1,6 @@
 pub mod Few
+pub mod Floats
+pub mod FormBack
+pub mod Lists
+pub mod NamesBack
+pub mod Sorted

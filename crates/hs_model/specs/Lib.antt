@@ -3,3 +3,5 @@ pub mod Meta
 pub mod GraphForm
 pub mod Graph
 pub mod Words
+pub mod Written
+pub mod Renumbered

@@ -2,22 +2,33 @@
 //!
 //! [`read_meta`] gives the metamodel that a value is, and [`read_graph`] the typed graph over a
 //! metamodel; or the first fault with its path. Faults of form ([`raw_meta`], [`raw_objects`]) come
-//! before those of meaning.
+//! before those of meaning. [`write_graph`] gives the text of a graph, and [`graph_value`] the value
+//! that it is the text of.
 #![tactic(auto)]
 
 mod fault;
 mod graph;
 mod graph_form;
+mod graph_line;
+mod index;
 mod meta;
 mod meta_form;
 mod paths;
 #[cfg(test)]
 mod read_tests;
+#[cfg(test)]
+mod tests;
+mod values;
 mod words;
 
 pub use fault::{Fault, Wrong};
 pub use graph::{GraphFailure, read_graph};
 pub use graph_form::raw_objects;
+pub use graph_line::{graph_value, write_graph};
 pub use meta::{MetaFailure, read_meta};
 pub use meta_form::raw_meta;
+pub use values::{
+    Members, attrs_value, class_name, datum_value, feature_name, list_value, text_value,
+    texts_value,
+};
 pub use words::Worded;

@@ -1,6 +1,6 @@
 use Rattle.std.proofs.Common.{◌∙◌, ap}
 use Rattle.serde_json.specs.Written.{has_float}
-use Rattle.henshin.proofs.Floats.{graph_none}
+use Rattle.hs_model.proofs.Floats.{graph_none}
 use Rattle.henshin.proofs.lines.add_graph.Goals as goal
 
 pub add_line-requires : goal.add_line-requires

@@ -1,7 +1,8 @@
 use Rattle.std.proofs.Common.{◌≡◌, map, drop}
 use Rattle.serde_json.specs.Data.{no_members}
 use Rattle.serde_json.specs.View.{members_view}
-use Rattle.henshin.specs.ReportText.{with_members, arg_data}
+use Rattle.hs_model.specs.Written.{with_members}
+use Rattle.henshin.specs.ReportText.{arg_data}
 use Rattle.henshin.proofs.lines.args_value.Given as goal
 
 -- the members so far, with those of the arguments that are left, are those of all

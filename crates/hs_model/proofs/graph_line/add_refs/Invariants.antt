@@ -3,8 +3,8 @@ use Rattle.std.specs.Option.{option_map, unwrap_or}
 use Rattle.std.specs.Ordering.{nat_cmp}
 use Rattle.std.specs.BTreeMap.{get}
 use Rattle.serde_json.specs.View.{members_view}
-use Rattle.henshin.specs.ReportText.{with_members, refs_members}
-use Rattle.henshin.proofs.graph_line.add_refs.Given as goal
+use Rattle.hs_model.specs.Written.{with_members, refs_members}
+use Rattle.hs_model.proofs.graph_line.add_refs.Given as goal
 
 -- the members so far, with those of the features that are left, are those of all
 abbrev pub invariant-loop-feature : goal.invariant-loop-feature

@@ -2,8 +2,8 @@ use Rattle.std.proofs.Common.{◌∙◌, ap}
 use Rattle.serde_json.specs.Data.{array}
 use Rattle.serde_json.specs.View.{items_of}
 use Rattle.serde_json.proofs.Views.{view-Array}
-use Rattle.henshin.proofs.Lists.{none_left}
-use Rattle.henshin.proofs.lines.list_value.Goals as goal
+use Rattle.hs_model.proofs.Lists.{none_left}
+use Rattle.hs_model.proofs.values.list_value.Goals as goal
 
 pub returns : goal.returns
 returns g c = λ data_of h. rw (← c.as_slice-item-items.ensures) (

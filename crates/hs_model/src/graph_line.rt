@@ -1,16 +1,17 @@
-//! The line of a graph.
+//! A graph as it is written.
 
-ghost use Rattle.std.specs.Prelude.{◌≡◌, ℕ, ◌++◌, List, [], IfOk, OnOk, map, eqb, option_map, unwrap_or};
+ghost use Rattle.std.specs.Prelude.{◌≡◌, ℕ, ◌++◌, List, [], IfOk, OnOk, map, eqb, false, option_map, unwrap_or};
 ghost use Rattle.std.specs.Ordering.{nat_cmp};
 ghost use Rattle.std.specs.BTreeMap.{get};
 ghost use Rattle.serde_json.specs.Data.{string};
 ghost use Rattle.serde_json.specs.View.{view, items_of, members_view};
+ghost use Rattle.serde_json.specs.Written.{compact_text, has_float};
 ghost use Rattle.hs_types.specs.Metamodel.{features_of};
-ghost use Rattle.henshin.specs.ReportText.{with_members, list_data, object_data, reference_member, feature_name, targets_of, refs_members, object_members, edges_from, object_line, graph_data};
+ghost use Rattle.hs_model.specs.Written.{with_members, list_data, object_data, reference_member, feature_name, targets_of, refs_members, object_members, edges_from, object_line, graph_data};
 ghost use Rattle.hs_types.specs.TypedGraph.{object_at};
 
 use crate::index::{Objects, Outgoing, objects_of, outgoing_of};
-use crate::lines::{Members, attrs_value, class_name, feature_name, text_value, texts_value};
+use crate::values::{Members, attrs_value, class_name, feature_name, text_value, texts_value};
 use hs_expr::{List, Text};
 use hs_types::{ClassNo, Edge, FeatureNo, Graph, Meta, Object, ObjectNo};
 use serde_json::{Value, json, put};
@@ -22,6 +23,21 @@ pub fn graph_value(alloc: Global, meta: &Meta, graph: &Graph) -> Result<Value, A
 {
     let objects = objects_value(alloc, meta, graph)?;
     json!(in alloc; {"graph": objects})
+}
+
+/// The compact text of a graph.
+pub fn write_graph(alloc: Global, meta: &Meta, graph: &Graph) -> Result<Text, AllocError>
+    ensures { IfOk result (λ text. text ≡ compact_text (graph_data meta.now graph.now)) }
+{
+    let value = graph_value(alloc, meta, graph)?;
+    compact_text(alloc, &value)
+}
+
+fn compact_text(alloc: Global, value: &Value) -> Result<Text, AllocError>
+    requires { has_float (view value.now) ≡ false }
+    ensures { IfOk result (λ text. text ≡ compact_text (view value.now)) }
+{
+    Ok(Text::from_string(value.to_string(alloc)?))
 }
 
 fn objects_value(alloc: Global, meta: &Meta, graph: &Graph) -> Result<Value, AllocError>

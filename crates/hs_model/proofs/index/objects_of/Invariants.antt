@@ -3,7 +3,7 @@ use Rattle.std.specs.List.{find}
 use Rattle.std.specs.Option.{option_map}
 use Rattle.std.specs.Ordering.{nat_cmp}
 use Rattle.std.specs.BTreeMap.{get}
-use Rattle.henshin.proofs.index.objects_of.Given as goal
+use Rattle.hs_model.proofs.index.objects_of.Given as goal
 
 -- of each number the first object so far
 abbrev pub invariant-loop-object : goal.invariant-loop-object

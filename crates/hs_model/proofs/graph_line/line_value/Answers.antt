@@ -1,7 +1,7 @@
 use Rattle.std.proofs.Common.{◌≡◌, ◌∙◌}
-use Rattle.henshin.specs.ReportText.{edges_from, name_in}
-use Rattle.henshin.proofs.Lists.{named}
-use Rattle.henshin.proofs.graph_line.line_value.Goals as goal
+use Rattle.hs_model.specs.Written.{edges_from, name_in}
+use Rattle.hs_model.proofs.Lists.{named}
+use Rattle.hs_model.proofs.graph_line.line_value.Goals as goal
 
 pub returns : goal.returns
 returns c = λ g objects outgoing.

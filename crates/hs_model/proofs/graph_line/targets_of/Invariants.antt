@@ -2,8 +2,8 @@ use Rattle.std.proofs.Common.{◌≡◌, ◌++◌, ℕ, List, [], drop}
 use Rattle.std.specs.Option.{option_map, unwrap_or}
 use Rattle.std.specs.Ordering.{nat_cmp}
 use Rattle.std.specs.BTreeMap.{get}
-use Rattle.henshin.specs.ReportText.{targets_of}
-use Rattle.henshin.proofs.graph_line.targets_of.Given as goal
+use Rattle.hs_model.specs.Written.{targets_of}
+use Rattle.hs_model.proofs.graph_line.targets_of.Given as goal
 
 -- the targets so far, with those of the edges that are left, are those of all
 abbrev pub invariant-loop-edge : goal.invariant-loop-edge

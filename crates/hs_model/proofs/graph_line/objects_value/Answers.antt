@@ -2,9 +2,9 @@ use Rattle.std.proofs.Common.{◌≡◌, ◌∙◌, ap}
 use Rattle.serde_json.specs.Data.{array}
 use Rattle.serde_json.specs.View.{view, items_of}
 use Rattle.serde_json.proofs.Views.{view-Array}
-use Rattle.henshin.specs.ReportText.{list_data, object_line}
-use Rattle.henshin.proofs.Lists.{none_left, one_more_made}
-use Rattle.henshin.proofs.graph_line.objects_value.Goals as goal
+use Rattle.hs_model.specs.Written.{list_data, object_line}
+use Rattle.hs_model.proofs.Lists.{none_left, one_more_made}
+use Rattle.hs_model.proofs.graph_line.objects_value.Goals as goal
 
 pub loop-object-preserved : goal.loop-object-preserved
 loop-object-preserved c =

@@ -1,7 +1,7 @@
 use Rattle.std.proofs.Common.{◌∙◌, ap, sym, cond, Some, None, eqb}
 use Rattle.std.specs.Option.{option_or}
-use Rattle.henshin.proofs.Lists.{find_more}
-use Rattle.henshin.proofs.index.objects_of.Goals as goal
+use Rattle.hs_model.proofs.Lists.{find_more}
+use Rattle.hs_model.proofs.index.objects_of.Goals as goal
 
 pub loop-object-preserved : goal.loop-object-preserved
 loop-object-preserved c = λ n.

@@ -1,8 +1,8 @@
 use Rattle.std.proofs.Common.{◌≡◌, map, drop}
 use Rattle.serde_json.specs.Data.{no_members}
 use Rattle.serde_json.specs.View.{members_view}
-use Rattle.henshin.specs.ReportText.{with_members, feature_name, value_data}
-use Rattle.henshin.proofs.lines.attrs_value.Given as goal
+use Rattle.hs_model.specs.Written.{with_members, feature_name, value_data}
+use Rattle.hs_model.proofs.values.attrs_value.Given as goal
 
 -- the members so far, with those of the slots that are left, are those of all
 abbrev pub invariant-loop-slot : goal.invariant-loop-slot

@@ -1,7 +1,7 @@
 use Rattle.std.proofs.Common.{◌≡◌, ◌++◌, map, drop}
 use Rattle.serde_json.specs.View.{view}
-use Rattle.henshin.specs.ReportText.{object_line}
-use Rattle.henshin.proofs.graph_line.objects_value.Given as goal
+use Rattle.hs_model.specs.Written.{object_line}
+use Rattle.hs_model.proofs.graph_line.objects_value.Given as goal
 
 -- the values so far, and those of the objects that are left, are those of all
 abbrev pub invariant-loop-object : goal.invariant-loop-object

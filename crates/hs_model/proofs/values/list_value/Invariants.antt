@@ -1,8 +1,8 @@
 use Rattle.std.proofs.Common.{◌≡◌, ◌++◌, map, drop, Bor, IfOk}
 use Rattle.serde_json.specs.Data.{Data}
 use Rattle.serde_json.specs.View.{view}
-use Rattle.henshin.specs.contracts.lines.list_value.F-Fn.{words}
-use Rattle.henshin.proofs.lines.list_value.Given as goal
+use Rattle.hs_model.specs.contracts.values.list_value.F-Fn.{words}
+use Rattle.hs_model.proofs.values.list_value.Given as goal
 
 -- the values so far, and those of the items that are left, are those of all
 abbrev pub invariant-loop-item : goal.invariant-loop-item

@@ -3,7 +3,7 @@ use Rattle.std.specs.List.{filter}
 use Rattle.std.specs.Option.{option_map, unwrap_or}
 use Rattle.std.specs.Ordering.{nat_cmp}
 use Rattle.std.specs.BTreeMap.{get}
-use Rattle.henshin.proofs.index.outgoing_of.Given as goal
+use Rattle.hs_model.proofs.index.outgoing_of.Given as goal
 
 -- of each source the edges so far
 abbrev pub invariant-loop-edge : goal.invariant-loop-edge

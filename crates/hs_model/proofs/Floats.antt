@@ -1,0 +1,96 @@
+-- No value that a graph is written as has a float.
+use Rattle.std.proofs.Common.{ℕ, ◌≡◌, List, [], ◌∷◌, map, Bool, true, false, ◌||◌, refl, ◌++◌, pos, negsuc}
+use Rattle.std.specs.List.{flat_map}
+use Rattle.std.specs.Ordering.{nat_cmp, match_ordering}
+use Rattle.std.specs.declared.cmp.Ordering.{Ordering}
+use Rattle.std.specs.declared.cmp.Ordering.TheVariants.{Less, Equal, Greater}
+use Rattle.std.specs.Cmp.Lexicographic.{slice_cmp}
+use Rattle.serde_json.specs.Data.{Data, string, Members, no_members, member, put}
+use Rattle.serde_json.specs.Written.{has_float, members_have_float}
+use Rattle.hs_expr.specs.declared.value.Value.{Value}
+use Rattle.hs_expr.specs.declared.value.Value.TheVariants as value
+use Rattle.hs_types.specs.declared.graph.Graph.{Graph}
+use Rattle.hs_types.specs.declared.graph.Object.{Object}
+use Rattle.hs_types.specs.declared.graph.Slot.{Slot}
+use Rattle.hs_types.specs.declared.meta.Metamodel.{Metamodel}
+use Rattle.hs_types.specs.Metamodel.{features_of}
+use Rattle.hs_model.specs.Written.{Member, with_members, object_data, list_data, value_data, attrs_data, feature_name, targets_of, edges_from, name_in, reference_member, refs_members, object_members, object_line, graph_members, graph_data}
+
+abbrev pub HaveNone : List Member → Type 0
+HaveNone [] = Unit {0}
+HaveNone (m ∷ ms) = (has_float m.1 ≡ false) × HaveNone ms
+
+or_left : (a b : Bool) → (a || b) ≡ false → a ≡ false
+or_left true b h = cc
+or_left false b h = refl
+
+or_right : (a b : Bool) → (a || b) ≡ false → b ≡ false
+or_right true b h = cc
+or_right false b h = h
+
+or_none : (a b : Bool) → a ≡ false → b ≡ false → (a || b) ≡ false
+or_none a b g h = rw g h
+
+-- wherever the new member comes to stand
+put_here : (o : Ordering) (k l : List ℕ) (d e : Data) (ms rest : Members) → has_float d ≡ false → members_have_float (member l e ms) ≡ false →
+    members_have_float rest ≡ false → members_have_float (match_ordering o (member k d (member l e ms)) (member l d ms) (member l e rest)) ≡ false
+put_here Less k l d e ms rest a b r = or_none _ _ a b
+put_here Equal k l d e ms rest a b r = or_none _ _ a (or_right (has_float e) _ b)
+put_here Greater k l d e ms rest a b r = or_none _ _ (or_left (has_float e) (members_have_float ms) b) r
+
+pub put_none : (k : List ℕ) (d : Data) (ms : Members) → has_float d ≡ false → members_have_float ms ≡ false → members_have_float (put k d ms) ≡ false
+put_none k d no_members a b = or_none _ _ a refl
+put_none k d (member l e ms) a b = put_here (slice_cmp nat_cmp k l) k l d e ms (put k d ms) a b (put_none k d ms a (or_right (has_float e) _ b))
+
+pub with_none : (ms : Members) (xs : List Member) → members_have_float ms ≡ false → HaveNone xs → members_have_float (with_members ms xs) ≡ false
+with_none ms [] a b = a
+with_none ms (x ∷ xs) a b = with_none (put x.0 x.1 ms) xs (put_none x.0 x.1 ms b.0 a) b.1
+
+pub object_none : (xs : List Member) → HaveNone xs → has_float (object_data xs) ≡ false
+object_none xs b = with_none no_members xs refl b
+
+pub list_none : {A : Type 0} (one : A → Data) (xs : List A) → ((x : A) → has_float (one x) ≡ false) → has_float (list_data one xs) ≡ false
+list_none one [] h = refl
+list_none one (x ∷ xs) h = or_none _ _ (h x) (list_none one xs h)
+
+pub map_none : {A : Type 0} (f : A → Member) (xs : List A) → ((x : A) → has_float (f x).1 ≡ false) → HaveNone (map f xs)
+map_none f [] h = tt
+map_none f (x ∷ xs) h = (h x, map_none f xs h)
+
+pub value_none : (v : Value) → has_float (value_data v) ≡ false
+value_none (value.Int n) = elim n as (λ z. has_float (value_data (value.Int z)) ≡ false) [ pos k ↦ refl | negsuc k ↦ refl ]
+value_none (value.Bool b) = refl
+value_none (value.Text t) = refl
+
+pub attrs_none : (m : Metamodel) (slots : List Slot) → has_float (attrs_data m slots) ≡ false
+attrs_none m slots =
+    object_none (map (λ slot. (feature_name m slot.attribute, value_data slot.value)) slots)
+    (map_none (λ slot. (feature_name m slot.attribute, value_data slot.value)) slots (λ slot. value_none slot.value))
+
+pub reference_none : (name : List ℕ) (targets : List (List ℕ)) (ms : List Member) → HaveNone ms → HaveNone (reference_member name targets ++ ms)
+reference_none name [] ms h = h
+reference_none name (t ∷ ts) ms h = (list_none string (t ∷ ts) (λ n. refl), h)
+
+pub references_none : (m : Metamodel) (targets : ℕ → List (List ℕ)) (fs : List ℕ) → HaveNone (flat_map (λ f. reference_member (feature_name m f) (targets f)) fs)
+references_none m targets [] = tt
+references_none m targets (f ∷ fs) = reference_none (feature_name m f) (targets f) _ (references_none m targets fs)
+
+pub line_none : (m : Metamodel) (g : Graph) (o : Object) → has_float (object_line m g o) ≡ false
+line_none m g o =
+    object_none (object_members m (name_in g) (edges_from g o.number) o) (
+      attrs_none m o.slots,
+      (
+        refl,
+        (
+          refl,
+          (
+            object_none (refs_members m (name_in g) (edges_from g o.number) (features_of m o.class))
+                (references_none m (targets_of (name_in g) (edges_from g o.number)) (features_of m o.class)),
+            tt,
+          ),
+        ),
+      ),
+    )
+
+pub graph_none : (m : Metamodel) (g : Graph) → has_float (graph_data m g) ≡ false
+graph_none m g = object_none (graph_members m g) (list_none (object_line m g) g.objects (line_none m g), tt)

@@ -1,0 +1,147 @@
+use crate::{read_graph, read_meta, write_graph};
+use hs_expr::{List, Text, Value as Scalar};
+use hs_types::{Edge, EdgeNo, FeatureNo, Graph, Meta, Object, ObjectNo, Slot};
+use serde_json::Value;
+use std::alloc::{AllocError, Global};
+use std::test::Fail;
+
+/// `Client` and `Account` below the abstract `Named`, which has `name` and `link` to anything. A client
+/// holds `accounts`; an account has `balance`, `total`, `open` and an `owner`.
+const BANK: &str =
+    "{\"classes\":[{\"name\":\"Named\",\"abstract\":true,\"attributes\":[{\"name\":\"name\",\"type\":\"EString\",\"default\":\"?\"}],\"references\":[{\"name\":\"link\",\"target\":\"Named\",\"upper\":-1}]},{\"name\":\"Client\",\"supers\":[\"Named\"],\"references\":[{\"name\":\"accounts\",\"target\":\"Account\",\"upper\":-1}]},{\"name\":\"Account\",\"supers\":[\"Named\"],\"attributes\":[{\"name\":\"balance\",\"type\":\"EInt\",\"default\":5},{\"name\":\"total\",\"type\":\"ELong\"},{\"name\":\"open\",\"type\":\"EBoolean\"}],\"references\":[{\"name\":\"owner\",\"target\":\"Client\"}]}]}";
+
+fn bank(alloc: Global) -> Option<Meta> {
+    let value = Value::from_str(alloc, BANK).ok()?;
+    read_meta(alloc, &value).ok()
+}
+
+/// The graph that the value of this text has at `graph`.
+fn read(alloc: Global, meta: &Meta, text: &str) -> Option<Graph> {
+    if meta.plain().classes.len() > 256 {
+        return None;
+    }
+    let value = Value::from_str(alloc, text).ok()?;
+    read_graph(alloc, meta, value.get("graph")?).ok()
+}
+
+/// The text of the graph that is read of this text.
+fn rewritten(alloc: Global, text: &str) -> Option<Text> {
+    let meta = bank(alloc)?;
+    let graph = read(alloc, &meta, text)?;
+    write_graph(alloc, &meta, &graph).ok()
+}
+
+fn is_rewritten(alloc: Global, text: &str, expected: &str) -> bool {
+    match rewritten(alloc, text) {
+        Some(written) => written.as_str() == expected,
+        None => false,
+    }
+}
+
+/// A client without slots, or an account with these ones.
+fn object(
+    alloc: Global,
+    number: ObjectNo,
+    name: &str,
+    values: &[(FeatureNo, i64)],
+) -> Result<Object, AllocError> {
+    let mut slots = List::new(alloc);
+    slots.push(Slot {
+        attribute: 0,
+        value: Scalar::Text(Text::from_str(alloc, name)?),
+    })?;
+    for (attribute, number) in values {
+        slots.push(Slot {
+            attribute: *attribute,
+            value: Scalar::Int(*number),
+        })?;
+    }
+    let class = if values.is_empty() { 1 } else { 2 };
+    Ok(Object {
+        number,
+        name: Text::from_str(alloc, name)?,
+        class,
+        slots,
+    })
+}
+
+fn edge(number: EdgeNo, source: ObjectNo, reference: FeatureNo, target: ObjectNo) -> Edge {
+    Edge {
+        number,
+        source,
+        reference,
+        target,
+    }
+}
+
+/// Client 7 with an edge to account 3, one to itself, and one more to the account.
+fn worn(alloc: Global) -> Result<Graph, AllocError> {
+    let mut objects = List::new(alloc);
+    objects.push(object(alloc, 3, "b", &[(3, -7), (4, 9223372036854775807)])?)?;
+    objects.push(object(alloc, 7, "a", &[])?)?;
+    let mut edges = List::new(alloc);
+    edges.push(edge(2, 7, 2, 3))?;
+    edges.push(edge(5, 7, 1, 7))?;
+    edges.push(edge(6, 3, 6, 7))?;
+    edges.push(edge(9, 7, 2, 3))?;
+    Ok(Graph {
+        objects,
+        edges,
+        next_object: 9,
+        next_edge: 12,
+        next_name: 4,
+    })
+}
+
+/// Written, the graph reads as expected.
+fn is_written(alloc: Global, expected: &str) -> Option<bool> {
+    let meta = bank(alloc)?;
+    let graph = worn(alloc).ok()?;
+    let text = write_graph(alloc, &meta, &graph).ok()?;
+    Some(text.as_str() == expected)
+}
+
+/// The edges of the graph that is read of this text.
+fn edges_read(alloc: Global, text: &str) -> Option<List<Edge>> {
+    let meta = bank(alloc)?;
+    Some(read(alloc, &meta, text)?.edges)
+}
+
+/// Two objects with parallel edges, a loop, inherited features and every kind of value.
+const FULL: &str =
+    "{\"graph\":[{\"attrs\":{\"name\":\"An\\\"n\"},\"class\":\"Client\",\"name\":\"a\",\"refs\":{\"accounts\":[\"b\",\"b\"],\"link\":[\"b\",\"a\"]}},{\"attrs\":{\"balance\":-2147483648,\"name\":\"\",\"open\":true,\"total\":9223372036854775807},\"class\":\"Account\",\"name\":\"b\",\"refs\":{\"owner\":[\"a\"]}}]}";
+
+#[test]
+fn a_written_graph_is_written_the_same_again(rt: HostRuntime) {
+    assert!(rt; is_rewritten(rt.alloc(), FULL, FULL));
+}
+
+#[test]
+fn defaults_are_written(rt: HostRuntime) {
+    let short = "{\"graph\":[{\"name\":\"b\",\"class\":\"Account\"}]}";
+    let full =
+        "{\"graph\":[{\"attrs\":{\"balance\":5,\"name\":\"?\",\"open\":false,\"total\":0},\"class\":\"Account\",\"name\":\"b\",\"refs\":{}}]}";
+    assert!(rt; is_rewritten(rt.alloc(), short, full));
+}
+
+#[test]
+fn objects_and_edges_are_written_in_the_order_of_their_numbers(rt: HostRuntime) {
+    let expected =
+        "{\"graph\":[{\"attrs\":{\"balance\":-7,\"name\":\"b\",\"total\":9223372036854775807},\"class\":\"Account\",\"name\":\"b\",\"refs\":{\"owner\":[\"a\"]}},{\"attrs\":{\"name\":\"a\"},\"class\":\"Client\",\"name\":\"a\",\"refs\":{\"accounts\":[\"b\",\"b\"],\"link\":[\"a\"]}}]}";
+    assert_eq!(rt; is_written(rt.alloc(), expected), Some(true));
+}
+
+#[test]
+fn edges_are_read_reference_by_reference_in_the_order_of_the_class(rt: HostRuntime) {
+    let expected = [
+        edge(0, 0, 1, 1),
+        edge(1, 0, 1, 0),
+        edge(2, 0, 2, 1),
+        edge(3, 0, 2, 1),
+        edge(4, 1, 6, 0),
+    ];
+    match edges_read(rt.alloc(), FULL) {
+        Some(edges) => assert!(rt; edges.as_slice() == &expected[..]),
+        None => assert!(rt; false, "the graph isn't read"),
+    }
+}
