@@ -9,3 +9,4 @@ pub mod Clean
 pub mod Slots
 pub mod Opening
 pub mod Inside
+pub mod Climbs
