@@ -1,12 +1,12 @@
 -- After as many steps as there are places one stands on a cycle, or nowhere.
-use Rattle.std.proofs.Common.{ℕ, zero, suc, ◌+◌, ◌*◌, ◌-◌, ◌<◌, ◌≤◌, ◌≡◌, ◌⊎◌, inl, inr, ◌||◌, List, [], ◌∷◌, Bool, true, false, cond, not, eqb, length, Option, Some, None, IfSome, get_or, refl, ap, sym, ◌∙◌, subst, arith, add-zero, zero-add}
-use Rattle.std.specs.List.{All, filter}
-use Rattle.std.specs.Option.{option_and_then}
+use Rattle.std.proofs.Common.{ℕ, zero, suc, ◌+◌, ◌*◌, ◌-◌, ◌<◌, ◌≤◌, ◌≡◌, ◌⊎◌, inl, inr, ◌||◌, List, [], ◌∷◌, Bool, true, false, cond, not, eqb, length, Option, Some, None, get_or, map, ◌↔◌, Result, Ok, Err, IfOk, refl, ap, sym, ◌∙◌, subst, arith, add-zero, zero-add}
+use Rattle.std.specs.List.{All, filter, list_any}
+use Rattle.std.specs.Option.{option_and_then, option_map_or}
 use Rattle.std.proofs.lemmas.Bool.{eqb-true, eq-eqb, ne_eqb, false≢true}
 use Rattle.std.proofs.lemmas.List.Elements.{All-nil, All-cons, All-head, All-tail}
 use Rattle.std.proofs.lemmas.Option.{none-some, same_Some}
 use Rattle.hs_types.specs.Lists.{Differ, has}
-use Rattle.hs_graph.specs.Climbing.{Returns, climb, up_of}
+use Rattle.hs_graph.specs.Climbing.{GoFar, Inside, Returns, climb, is_at, up_of}
 
 -- ---- steps
 
@@ -138,10 +138,6 @@ few-different (suc n) xs a d =
 
 -- ---- enough steps end on a cycle
 
--- Each step leads to a place.
-abbrev pub Inside : List (Option ℕ) → Type 0
-Inside ups = (n m : ℕ) → up_of ups n ≡ Some m → m < length ups
-
 -- Each of these places leads here, by one step or more.
 abbrev Leads : List (Option ℕ) → List ℕ → ℕ → Type 0
 Leads ups vs n = (v : ℕ) → has vs v ≡ true → (i : ℕ) × (1 ≤ i) × (climb ups i v ≡ Some n)
@@ -187,3 +183,80 @@ ends-on ups (suc k) vs n c inside h below d leads e enough = go (λ m at f. ends
 -- After as many steps as there are places one stands on a cycle.
 pub ends-on_cycle : (ups : List (Option ℕ)) (k n c : ℕ) → Inside ups → n < length ups → climb ups k n ≡ Some c → length ups ≤ k → Returns ups c
 ends-on_cycle ups k n c inside h e enough = ends-on ups k [] n c inside h (All-nil (λ v. v < length ups)) tt (λ v f. absurd (false≢true f)) e (omega (arith, enough))
+
+-- ---- steps taken twice
+
+-- Where no place is, no step leads.
+get_or-mapped : (f : Option ℕ → Option ℕ) (os : List (Option ℕ)) (n : ℕ) → f None ≡ None → get_or (map f os) n None ≡ f (get_or os n None)
+get_or-mapped f [] n e = sym e
+get_or-mapped f (o ∷ os) zero e = refl
+get_or-mapped f (o ∷ os) (suc n) e = get_or-mapped f os n e
+
+pub steps-twice : (ups steps : List (Option ℕ)) (k : ℕ) → ((n : ℕ) → up_of steps n ≡ climb ups k n) → (n : ℕ) → up_of (map (option_and_then (up_of steps)) steps) n ≡ climb ups (k + k) n
+steps-twice ups steps k are n =
+    get_or-mapped (option_and_then (up_of steps)) steps n refl ∙ ap (option_and_then (up_of steps)) (are n)
+    ∙ go (climb ups k n) ∙ sym (climb-add ups k k n)
+  where
+    go : (o : Option ℕ) → option_and_then (up_of steps) o ≡ option_and_then (climb ups k) o
+    go None = refl
+    go (Some m) = are m
+
+pub steps-once : (ups : List (Option ℕ)) (n : ℕ) → up_of ups n ≡ climb ups 1 n
+steps-once ups n = sym (one-step ups n)
+
+-- ---- marks
+
+any_at : (c : ℕ) (os : List (Option ℕ)) → list_any (is_at c) os ≡ true → (n : ℕ) × (n < length os) × (get_or os n None ≡ Some c)
+any_at c [] e = absurd (false≢true e)
+any_at c (o ∷ os) e = go (any_at c os) (is_at c o) refl e
+  where
+    here : (p : Option ℕ) → is_at c p ≡ true → p ≡ Some c
+    here None t = absurd (false≢true t)
+    here (Some d) t = ap Some (sym (eqb-true c d t))
+    go : (list_any (is_at c) os ≡ true → (n : ℕ) × (n < length os) × (get_or os n None ≡ Some c)) → (b : Bool) → is_at c o ≡ b → (b || list_any (is_at c) os) ≡ true → (n : ℕ) × (n < length (o ∷ os)) × (get_or (o ∷ os) n None ≡ Some c)
+    go later true t f = (0, omega arith, here o t)
+    go later false t f = let rest = later f in (suc rest.0, omega (arith, rest.1), rest.2)
+
+any_from : (c : ℕ) (os : List (Option ℕ)) (n : ℕ) → get_or os n None ≡ Some c → list_any (is_at c) os ≡ true
+any_from c [] n e = absurd (none-some c e)
+any_from c (o ∷ os) zero e = left (is_at c o) (list_any (is_at c) os) (ap (is_at c) e ∙ eq-eqb c c refl)
+  where
+    left : (a b : Bool) → a ≡ true → (a || b) ≡ true
+    left a b t = rw t refl
+any_from c (o ∷ os) (suc n) e = right (is_at c o) (list_any (is_at c) os) (any_from c os n e)
+  where
+    right : (a b : Bool) → b ≡ true → (a || b) ≡ true
+    right true b t = refl
+    right false b t = t
+
+-- The last step of a climb.
+climb-inside : (ups : List (Option ℕ)) (k n c : ℕ) → Inside ups → 1 ≤ k → climb ups k n ≡ Some c → c < length ups
+climb-inside ups k n c inside h e =
+    let parts : (k - 1) + 1 ≡ k = omega (arith, h) in
+    let begins = climb-begins ups (k - 1) 1 n c (ap (λ j. climb ups j n) parts ∙ e) in
+    inside begins.0 c (sym (one-step ups begins.0) ∙ begins.2)
+
+pub far-inside : (ups far : List (Option ℕ)) → Inside ups → GoFar ups far → Inside far
+far-inside ups far inside far_is n m e =
+    let below = climb-inside ups far_is.0 n m inside far_is.1 (sym (far_is.4 n) ∙ e) in
+    let same = far_is.3 in
+    omega (arith, below, same)
+
+-- The places to which so many steps lead are those that lead back to themselves.
+pub marks-say : (ups far : List (Option ℕ)) (c : ℕ) (b : Bool) → Inside ups → GoFar ups far → b ≡ list_any (is_at c) far → (b ≡ true) ↔ Returns ups c
+marks-say ups far c b inside far_is e = (to, from)
+  where
+    to : b ≡ true → Returns ups c
+    to t =
+        let at = any_at c far (sym e ∙ t) in
+        let below = at.1 in
+        let same = far_is.3 in
+        ends-on_cycle ups far_is.0 at.0 c inside (omega (arith, below, same)) (sym (far_is.4 at.0) ∙ at.2) far_is.2
+    from : Returns ups c → b ≡ true
+    from r =
+        let begin = reached ups far_is.0 c r in
+        e ∙ any_from c far begin.0 (far_is.4 begin.0 ∙ begin.1)
+
+pub if_ok-more : {A E : Type 0} (P Q : A → Type 0) (r : Result A E) → ((x : A) → P x → Q x) → IfOk r P → IfOk r Q
+if_ok-more P Q (Ok x) h p = h x p
+if_ok-more P Q (Err e) h p = p

@@ -17,6 +17,7 @@ use std::alloc::Global;
 
 mod attrs;
 mod classes;
+mod climbing;
 mod edges;
 mod examples;
 mod fault;
@@ -34,6 +35,7 @@ mod values;
 
 use crate::fault::{fault, told};
 use crate::numbers::Named;
+pub use climbing::returning;
 pub use examples::{meanings, namings, problems, wrongs};
 pub use fault::{GraphFault, GraphFaultKind, GraphPlace};
 pub use laws::{cycles_are_reached, graphs_are_opening, graphs_are_small};
