@@ -10,3 +10,5 @@ pub mod Slots
 pub mod Opening
 pub mod Inside
 pub mod Climbs
+pub mod Adding
+pub mod Linking

@@ -18,6 +18,7 @@ use std::alloc::Global;
 mod attrs;
 mod classes;
 mod climbing;
+mod containment;
 mod edges;
 mod examples;
 mod fault;
@@ -35,7 +36,7 @@ mod values;
 
 use crate::fault::{fault, told};
 use crate::numbers::Named;
-pub use climbing::returning;
+pub use containment::cycles_of;
 pub use examples::{meanings, namings, problems, wrongs};
 pub use fault::{GraphFault, GraphFaultKind, GraphPlace};
 pub use laws::{cycles_are_reached, graphs_are_opening, graphs_are_small};
