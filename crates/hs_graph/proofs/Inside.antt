@@ -17,6 +17,18 @@ use Rattle.hs_types.proofs.Below.{says_below}
 use Rattle.hs_graph.specs.Problems.{Contains, IsInside, by_way_of, contents, contents_of, direct, is_containment}
 use Rattle.hs_graph.proofs.Slots.{All-at, found}
 
+-- Two tests one behind the other.
+pub filter-both : {A : Type 0} (p q : A → Bool) (xs : List A) → filter q (filter p xs) ≡ filter (λ x. p x && q x) xs
+filter-both p q [] = refl
+filter-both {A} p q (x ∷ xs) = go (p x) (q x) (filter-both p q xs)
+  where
+    go : (a b : Bool) → filter q (filter p xs) ≡ filter (λ x. p x && q x) xs → filter q (cond a (x ∷ filter p xs) (filter p xs)) ≡ cond (a && q x) (x ∷ filter (λ x. p x && q x) xs) (filter (λ x. p x && q x) xs)
+    go true b e = ap (λ ys. cond (q x) (x ∷ ys) ys) e
+    go false b e = e
+
+pub contents-both : (m : Metamodel) (g : Graph) (n : ℕ) → contents_of m g n ≡ map (λ (e : Edge). e.target) (filter (λ (e : Edge). eqb e.source n && is_containment m e.reference) g.edges)
+contents-both m g n = ap (map (λ (e : Edge). e.target)) (filter-both (λ (e : Edge). eqb e.source n) (λ (e : Edge). is_containment m e.reference) g.edges)
+
 -- ---- sources are numbers that objects can have
 
 pub rise-below : (low high : ℕ) (ns : List ℕ) → Rise low ns high → All (λ n. n < high) ns
@@ -75,8 +87,8 @@ targets-below m g typed = λ i e h. go (target_of m _) (typed.edges_fit i e h).1
 -- Both ends of a containment are numbers that objects can have.
 pub contained-below : (m : Metamodel) (g : Graph) (n k : ℕ) → IsTyped m g → Contains m g n k → (n < g.next_object) × (k < g.next_object)
 contained-below m g n k typed c =
-    (contained-source (λ (e : Edge). is_containment m e.reference) n k g.next_object g.edges (sources-below m g typed) c,
-    contained-target (λ (e : Edge). eqb e.source n && is_containment m e.reference) k g.next_object g.edges (targets-below m g typed) c)
+    (contained-source (λ (e : Edge). is_containment m e.reference) n k g.next_object g.edges (sources-below m g typed) (ap (λ ks. has ks k) (sym (contents-both m g n)) ∙ c),
+    contained-target (λ (e : Edge). eqb e.source n && is_containment m e.reference) k g.next_object g.edges (targets-below m g typed) (ap (λ ks. has ks k) (sym (contents-both m g n)) ∙ c))
 
 -- ---- rows and containment
 
@@ -108,7 +120,7 @@ to_contains m g n k is = go (slice_get (contents m g) n) refl is
 
 to_extends : (m : Metamodel) (g : Graph) (n k : ℕ) → IsTyped m g → Contains m g n k → below.Extends (contents m g) n k
 to_extends m g n k typed is =
-    let within = contained-source (λ (e : Edge). is_containment m e.reference) n k g.next_object g.edges (sources-below m g typed) is in
+    let within = contained-source (λ (e : Edge). is_containment m e.reference) n k g.next_object g.edges (sources-below m g typed) (ap (λ ks. has ks k) (sym (contents-both m g n)) ∙ is) in
     subst (λ (o : Option (List ℕ)). IsSomeAnd o (λ numbers. has numbers k ≡ true)) (sym (row-within m g n within)) is
 
 to_inside : (m : Metamodel) (g : Graph) (n k : ℕ) → below.IsBelow (contents m g) n k → IsInside m g n k

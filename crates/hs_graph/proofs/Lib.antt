@@ -12,3 +12,4 @@ pub mod Inside
 pub mod Climbs
 pub mod Adding
 pub mod Linking
+pub mod Rows

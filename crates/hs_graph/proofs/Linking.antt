@@ -12,7 +12,7 @@ use Rattle.hs_types.specs.TypedGraph.{IsTyped}
 use Rattle.hs_graph.specs.Climbing.{AreContainers, Inside, Returns, climb, holds, up_of}
 use Rattle.hs_graph.specs.Problems.{Contains, IsInside, by_way_of, contents_of, direct, is_containment, is_in_itself}
 use Rattle.hs_graph.proofs.Climbs.{climb-on}
-use Rattle.hs_graph.proofs.Inside.{contained-below, inside_says}
+use Rattle.hs_graph.proofs.Inside.{contained-below, contents-both, inside_says}
 
 has-contents : (p : Edge → Bool) (k : ℕ) (es : List Edge) → has (map (λ (e : Edge). e.target) (filter p es)) k ≡ list_any (λ (e : Edge). p e && eqb k e.target) es
 has-contents p k [] = refl
@@ -24,7 +24,7 @@ has-contents p k (e ∷ es) = go (has-contents p k es) (p e)
     go rest false = rest
 
 contains-any : (m : Metamodel) (g : Graph) (n k : ℕ) → has (contents_of m g n) k ≡ list_any (holds m n k) g.edges
-contains-any m g n k = has-contents (λ (e : Edge). eqb e.source n && is_containment m e.reference) k g.edges
+contains-any m g n k = ap (λ ks. has ks k) (contents-both m g n) ∙ has-contents (λ (e : Edge). eqb e.source n && is_containment m e.reference) k g.edges
 
 up-contains : (m : Metamodel) (g : Graph) (ups : List (Option ℕ)) (k n : ℕ) → AreContainers m g.edges g.next_object ups → k < g.next_object → up_of ups k ≡ Some n → Contains m g n k
 up-contains m g ups k n are h e = contains-any m g n k ∙ (are.1 k n h).0 e

@@ -22,25 +22,28 @@ mod containment;
 mod edges;
 mod examples;
 mod fault;
+mod index;
 mod laws;
 mod lookups;
 mod names;
 mod numbers;
 mod objects;
 mod problem;
+
 mod raw;
 mod refs;
 #[cfg(test)]
 mod tests;
+mod validation;
 mod values;
 
 use crate::fault::{fault, told};
 use crate::numbers::Named;
-pub use containment::cycles_of;
-pub use examples::{meanings, namings, problems, wrongs};
+pub use examples::{meanings, namings, troubles, wrongs};
 pub use fault::{GraphFault, GraphFaultKind, GraphPlace};
 pub use laws::{cycles_are_reached, graphs_are_opening, graphs_are_small};
 pub use problem::{Problem, ProblemKind};
+pub use validation::problems;
 pub use raw::{RawAttr, RawObject, RawRef, RawValue};
 
 /// The most objects.
