@@ -1,7 +1,7 @@
 -- Containers, edge by edge.
-use Rattle.std.proofs.Common.{ℕ, zero, suc, ◌+◌, ◌<◌, ◌≤◌, ◌≡◌, ◌↔◌, ◌⊎◌, inl, inr, ◌&&◌, ◌||◌, ◌++◌, List, [], ◌∷◌, Bool, true, false, eqb, length, take, Option, Some, None, get_or, refl, ap, sym, ◌∙◌, subst, arith, set}
+use Rattle.std.proofs.Common.{ℕ, ◌+◌, ◌<◌, ◌≤◌, ◌≡◌, ◌↔◌, ◌⊎◌, inl, inr, ◌&&◌, ◌||◌, ◌++◌, List, [], ◌∷◌, Bool, true, false, eqb, length, take, Option, Some, None, get_or, refl, ap, sym, ◌∙◌, arith, set}
 use Rattle.std.specs.List.{list_any}
-use Rattle.std.proofs.lemmas.Bool.{and_parts, eqb-true, eq-eqb, ne_eqb, false≢true}
+use Rattle.std.proofs.lemmas.Bool.{and_parts, eqb-true, eq-eqb, false≢true}
 use Rattle.std.proofs.lemmas.List.{take_more}
 use Rattle.std.proofs.lemmas.Option.{none-some, same_Some}
 use Rattle.std.proofs.lemmas.List.{get_or-set_same, get_or-set_other}
@@ -82,13 +82,17 @@ contained-more m edges i e count before after h at is long adds are = (long ∙ 
       where
         inside : k < length before
         inside = let same = are.0 in omega (arith, within, same)
+
         add : (up_of after k ≡ Some n) ↔ ((up_of before k ≡ Some n) ⊎ ((k ≡ e.target) × (n ≡ e.source)))
         add = adds k n inside
+
         it_holds : k ≡ e.target → n ≡ e.source → holds m n k e ≡ true
         it_holds s t = rw (eq-eqb e.source n (sym t), is, eq-eqb k e.target s) refl
+
         to : ((up_of before k ≡ Some n) ⊎ ((k ≡ e.target) × (n ≡ e.source))) → (list_any (holds m n k) (take i edges) || holds m n k e) ≡ true
         to (inl f) = left_is (list_any (holds m n k) (take i edges)) (holds m n k e) ((are.1 k n within).0 f)
         to (inr p) = right_is (list_any (holds m n k) (take i edges)) (holds m n k e) (it_holds p.0 p.1)
+
         from : ((list_any (holds m n k) (take i edges) ≡ true) ⊎ (holds m n k e ≡ true)) → ((up_of before k ≡ Some n) ⊎ ((k ≡ e.target) × (n ≡ e.source)))
         from (inl f) = inl ((are.1 k n within).1 f)
         from (inr f) =
@@ -106,11 +110,14 @@ contained-same m edges i e count ups h at isnt are = (are.0, says)
         go : (a : Bool) → (a && false && eqb k e.target) ≡ false
         go true = refl
         go false = refl
+
     or_false : (b : Bool) → (b || false) ≡ b
     or_false true = refl
     or_false false = refl
+
     same : (k n : ℕ) → list_any (holds m n k) (take (i + 1) edges) ≡ list_any (holds m n k) (take i edges)
     same k n = any-more (holds m n k) edges i e h at ∙ ap (λ b. list_any (holds m n k) (take i edges) || b) (none k n) ∙ or_false (list_any (holds m n k) (take i edges))
+
     says : (k n : ℕ) → k < count → (up_of ups k ≡ Some n) ↔ (list_any (holds m n k) (take (i + 1) edges) ≡ true)
     says k n within = (λ f. same k n ∙ (are.1 k n within).0 f, λ f. (are.1 k n within).1 (sym (same k n) ∙ f))
 

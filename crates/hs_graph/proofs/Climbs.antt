@@ -1,10 +1,10 @@
 -- After as many steps as there are places one stands on a cycle, or nowhere.
-use Rattle.std.proofs.Common.{ℕ, zero, suc, ◌+◌, ◌*◌, ◌-◌, ◌<◌, ◌≤◌, ◌≡◌, ◌⊎◌, inl, inr, ◌||◌, List, [], ◌∷◌, Bool, true, false, cond, not, eqb, length, Option, Some, None, get_or, map, ◌↔◌, Result, Ok, Err, IfOk, refl, ap, sym, ◌∙◌, subst, arith, add-zero, zero-add}
+use Rattle.std.proofs.Common.{ℕ, zero, suc, ◌+◌, ◌*◌, ◌-◌, ◌<◌, ◌≤◌, ◌≡◌, ◌||◌, List, [], ◌∷◌, Bool, true, false, cond, not, eqb, length, Option, Some, None, get_or, map, ◌↔◌, Result, Ok, Err, IfOk, refl, ap, sym, ◌∙◌, subst, arith, zero-add}
 use Rattle.std.specs.List.{All, filter, list_any}
-use Rattle.std.specs.Option.{option_and_then, option_map_or}
+use Rattle.std.specs.Option.{option_and_then}
 use Rattle.std.proofs.lemmas.Bool.{eqb-true, eq-eqb, ne_eqb, false≢true}
 use Rattle.std.proofs.lemmas.List.Elements.{All-nil, All-cons, All-head, All-tail}
-use Rattle.std.proofs.lemmas.Option.{none-some, same_Some}
+use Rattle.std.proofs.lemmas.Option.{none-some}
 use Rattle.hs_types.specs.Lists.{Differ, has}
 use Rattle.hs_graph.specs.Climbing.{GoFar, Inside, Returns, climb, is_at, up_of}
 
@@ -105,6 +105,7 @@ below-without v (x ∷ xs) a = go (below-without v xs (All-tail (λ x. x < suc v
       where
         other : eqb x v ≡ false → x ≡ v → ⊥
         other f s = absurd (false≢true (sym f ∙ eq-eqb x v s))
+
         small : x < suc v → (x ≡ v → ⊥) → x < v
         small l n = decide (eqb x v) refl
           where
@@ -150,6 +151,7 @@ not_among (v ∷ vs) n e =
     left : (a b : Bool) → (a || b) ≡ false → a ≡ false
     left true b t = t
     left false b t = refl
+
     right : (a b : Bool) → (a || b) ≡ false → b ≡ false
     right true b t = absurd (false≢true (sym t))
     right false b t = t
@@ -159,6 +161,7 @@ leads-more ups vs n m leads e v h = go (eqb v n) refl h
   where
     step : climb ups 1 n ≡ Some m
     step = one-step ups n ∙ e
+
     go : (b : Bool) → eqb v n ≡ b → (b || has vs v) ≡ true → (i : ℕ) × (1 ≤ i) × (climb ups i v ≡ Some m)
     go true t f = (1, omega arith, ap (climb ups 1) (eqb-true v n t) ∙ step)
     go false t f = let l = leads v f in (l.0 + 1, omega arith, climb-on ups l.0 1 v n m l.2 step)
@@ -176,6 +179,7 @@ ends-on ups (suc k) vs n c inside h below d leads e enough = go (λ m at f. ends
     onward : ((m : ℕ) → up_of ups n ≡ Some m → Differ (n ∷ vs) → climb ups k m ≡ Some c → length ups ≤ k + length (n ∷ vs) → Returns ups c) → Differ (n ∷ vs) → (o : Option ℕ) → up_of ups n ≡ o → option_and_then (climb ups k) o ≡ Some c → Returns ups c
     onward later f None at g = absurd (none-some c g)
     onward later f (Some m) at g = later m at f g (omega (arith, enough))
+
     go : ((m : ℕ) → up_of ups n ≡ Some m → Differ (n ∷ vs) → climb ups k m ≡ Some c → length ups ≤ k + length (n ∷ vs) → Returns ups c) → (b : Bool) → has vs n ≡ b → Returns ups c
     go later true t = returns-on ups (suc k) n c (leads n t) e
     go later false t = onward later (not_among vs n t, d) (up_of ups n) refl e
@@ -213,6 +217,7 @@ any_at c (o ∷ os) e = go (any_at c os) (is_at c o) refl e
     here : (p : Option ℕ) → is_at c p ≡ true → p ≡ Some c
     here None t = absurd (false≢true t)
     here (Some d) t = ap Some (sym (eqb-true c d t))
+
     go : (list_any (is_at c) os ≡ true → (n : ℕ) × (n < length os) × (get_or os n None ≡ Some c)) → (b : Bool) → is_at c o ≡ b → (b || list_any (is_at c) os) ≡ true → (n : ℕ) × (n < length (o ∷ os)) × (get_or (o ∷ os) n None ≡ Some c)
     go later true t f = (0, omega arith, here o t)
     go later false t f = let rest = later f in (suc rest.0, omega (arith, rest.1), rest.2)
@@ -252,6 +257,7 @@ marks-say ups far c b inside far_is e = (to, from)
         let below = at.1 in
         let same = far_is.3 in
         ends-on_cycle ups far_is.0 at.0 c inside (omega (arith, below, same)) (sym (far_is.4 at.0) ∙ at.2) far_is.2
+
     from : Returns ups c → b ≡ true
     from r =
         let begin = reached ups far_is.0 c r in

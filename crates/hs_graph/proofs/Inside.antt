@@ -11,7 +11,7 @@ use Rattle.hs_types.specs.declared.graph.Object.{Object}
 use Rattle.hs_types.specs.declared.meta.Metamodel.{Metamodel}
 use Rattle.hs_types.specs.Lists.{Rise, has}
 use Rattle.hs_types.specs.Supertypes as below
-use Rattle.hs_types.specs.Metamodel.{Conforms, target_of}
+use Rattle.hs_types.specs.Metamodel.{target_of}
 use Rattle.hs_types.specs.TypedGraph.{IsOf, IsTyped, Stands, object_at}
 use Rattle.hs_types.proofs.Below.{says_below}
 use Rattle.hs_graph.specs.Problems.{Contains, IsInside, by_way_of, contents, contents_of, direct, is_containment}
@@ -73,6 +73,7 @@ contained-target p k high (e ∷ es) a h = go (contained-target p k high es (All
     here : (b : Bool) → eqb k e.target ≡ b → (has (map (λ (e : Edge). e.target) (filter p es)) k ≡ true → k < high) → (b || has (map (λ (e : Edge). e.target) (filter p es)) k) ≡ true → k < high
     here true t later f = let same = eqb-true k e.target t in let below = All-head (λ (e : Edge). e.target < high) e es a in omega (arith, same, below)
     here false t later f = later f
+
     go : (has (map (λ (e : Edge). e.target) (filter p es)) k ≡ true → k < high) → (b : Bool) → has (map (λ (e : Edge). e.target) (cond b (e ∷ filter p es) (filter p es))) k ≡ true → k < high
     go later true f = here (eqb k e.target) refl later f
     go later false f = later f
@@ -86,9 +87,10 @@ targets-below m g typed = λ i e h. go (target_of m _) (typed.edges_fit i e h).1
 
 -- Both ends of a containment are numbers that objects can have.
 pub contained-below : (m : Metamodel) (g : Graph) (n k : ℕ) → IsTyped m g → Contains m g n k → (n < g.next_object) × (k < g.next_object)
-contained-below m g n k typed c =
-    (contained-source (λ (e : Edge). is_containment m e.reference) n k g.next_object g.edges (sources-below m g typed) (ap (λ ks. has ks k) (sym (contents-both m g n)) ∙ c),
-    contained-target (λ (e : Edge). eqb e.source n && is_containment m e.reference) k g.next_object g.edges (targets-below m g typed) (ap (λ ks. has ks k) (sym (contents-both m g n)) ∙ c))
+contained-below m g n k typed c = (
+  contained-source (λ (e : Edge). is_containment m e.reference) n k g.next_object g.edges (sources-below m g typed) (ap (λ ks. has ks k) (sym (contents-both m g n)) ∙ c),
+  contained-target (λ (e : Edge). eqb e.source n && is_containment m e.reference) k g.next_object g.edges (targets-below m g typed) (ap (λ ks. has ks k) (sym (contents-both m g n)) ∙ c),
+)
 
 -- ---- rows and containment
 

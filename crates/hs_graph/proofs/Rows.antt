@@ -31,6 +31,7 @@ each-itself supers n k enough = go (ltb k n) refl
   where
     marks : List Bool
     marks = map (λ n. is_below supers n n) (range_with_len 0 n)
+
     go : (b : Bool) → ltb k n ≡ b → get_or marks k false ≡ is_below supers k k
     go true e =
         let within : k < n = grind (arith, rules) in
@@ -41,4 +42,3 @@ each-itself supers n k enough = go (ltb k n) refl
         let long : length marks ≡ n = length-mapped (λ n. is_below supers n n) (range_with_len 0 n) ∙ length-range_with_len 0 n in
         nothing-past marks k (omega (arith, past, long))
         ∙ sym (nothing-past (below_within supers k (length supers)) k (omega (arith, past, enough, length-below supers k (length supers))))
-

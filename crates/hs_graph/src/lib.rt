@@ -29,7 +29,6 @@ mod names;
 mod numbers;
 mod objects;
 mod problem;
-
 mod raw;
 mod refs;
 #[cfg(test)]
@@ -43,8 +42,8 @@ pub use examples::{meanings, namings, troubles, wrongs};
 pub use fault::{GraphFault, GraphFaultKind, GraphPlace};
 pub use laws::{cycles_are_reached, graphs_are_opening, graphs_are_small};
 pub use problem::{Problem, ProblemKind};
-pub use validation::problems;
 pub use raw::{RawAttr, RawObject, RawRef, RawValue};
+pub use validation::problems;
 
 /// The most objects.
 const MOST_OBJECTS: usize = 200_000;

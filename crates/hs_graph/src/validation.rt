@@ -18,11 +18,7 @@ use hs_types::{Edge, FeatureKind, FeatureNo, Graph, Meta, Object, ObjectNo};
 use std::alloc::{AllocError, Global};
 
 /// The problems of a typed graph, object by object.
-pub fn problems(
-    alloc: Global,
-    meta: &Meta,
-    graph: &Graph,
-) -> Result<List<Problem>, AllocError>
+pub fn problems(alloc: Global, meta: &Meta, graph: &Graph) -> Result<List<Problem>, AllocError>
     requires { IsTyped meta.now graph.now }
     ensures { IfOk result (λ problems. problems ≡ spec.problems_of meta.now graph.now) }
 {
@@ -117,11 +113,7 @@ fn add_problems(
     )
 }
 
-fn add_if(
-    test: bool,
-    problem: Problem,
-    problems: &mut List<Problem>,
-) -> Result<(), AllocError>
+fn add_if(test: bool, problem: Problem, problems: &mut List<Problem>) -> Result<(), AllocError>
     ensures { OnOk result (problems.new ≡ problems.old ++ fault_if test problem) }
 {
     if test {
@@ -140,7 +132,13 @@ fn add_feature_problems(
     ensures { OnOk result (problems.new ≡ problems.old ++ flat_map (spec.feature_problems_by meta.now outgoing.now object) features.now) }
 {
     for feature in features {
-        add_count_problems(meta, object, *feature, targets_count(outgoing, *feature), problems)?;
+        add_count_problems(
+            meta,
+            object,
+            *feature,
+            targets_count(outgoing, *feature),
+            problems,
+        )?;
     }
     Ok(())
 }

@@ -1,4 +1,4 @@
-use Rattle.std.proofs.Common.{rules, ◌≡◌, ◌+◌, ◌≤◌, ◌∙◌, ap, length, map, option_and_then, arith}
+use Rattle.std.proofs.Common.{◌≡◌, ◌+◌, ◌≤◌, ◌∙◌, ap, length, map, option_and_then, arith}
 use Rattle.hs_graph.specs.Climbing as spec
 use Rattle.hs_graph.proofs.Climbs.{steps-twice}
 use Rattle.hs_graph.proofs.Lists.{length-mapped}
