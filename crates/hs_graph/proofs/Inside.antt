@@ -1,5 +1,5 @@
 -- What is inside what, by counted steps and as a relation.
-use Rattle.std.proofs.Common.{ℕ, zero, suc, ◌+◌, ◌<◌, ◌≤◌, ◌≡◌, ◌↔◌, ◌&&◌, List, [], ◌∷◌, Bool, true, false, cond, eqb, map, length, Option, Some, None, IsSomeAnd, slice_get, refl, ap, sym, ◌∙◌, subst, arith}
+use Rattle.std.proofs.Common.{ℕ, zero, suc, ◌+◌, ◌<◌, ◌≤◌, ◌≡◌, ◌↔◌, ◌&&◌, ◌||◌, List, [], ◌∷◌, Bool, true, false, cond, eqb, map, length, Option, Some, None, IsSomeAnd, slice_get, refl, ap, sym, ◌∙◌, subst, arith}
 use Rattle.std.specs.List.{All, filter, range_with_len}
 use Rattle.std.specs.Option.{option_map}
 use Rattle.std.proofs.lemmas.Bool.{and_parts, eqb-true, false≢true}
@@ -11,14 +11,27 @@ use Rattle.hs_types.specs.declared.graph.Object.{Object}
 use Rattle.hs_types.specs.declared.meta.Metamodel.{Metamodel}
 use Rattle.hs_types.specs.Lists.{Rise, has}
 use Rattle.hs_types.specs.Supertypes as below
-use Rattle.hs_types.specs.TypedGraph.{IsTyped, Stands, object_at}
+use Rattle.hs_types.specs.Metamodel.{target_of}
+use Rattle.hs_types.specs.TypedGraph.{IsOf, IsTyped, Stands, object_at}
 use Rattle.hs_types.proofs.Below.{says_below}
 use Rattle.hs_graph.specs.Problems.{Contains, IsInside, by_way_of, contents, contents_of, direct, is_containment}
 use Rattle.hs_graph.proofs.Slots.{All-at, found}
 
+-- Two tests one behind the other.
+pub filter-both : {A : Type 0} (p q : A → Bool) (xs : List A) → filter q (filter p xs) ≡ filter (λ x. p x && q x) xs
+filter-both p q [] = refl
+filter-both {A} p q (x ∷ xs) = go (p x) (q x) (filter-both p q xs)
+  where
+    go : (a b : Bool) → filter q (filter p xs) ≡ filter (λ x. p x && q x) xs → filter q (cond a (x ∷ filter p xs) (filter p xs)) ≡ cond (a && q x) (x ∷ filter (λ x. p x && q x) xs) (filter (λ x. p x && q x) xs)
+    go true b e = ap (λ ys. cond (q x) (x ∷ ys) ys) e
+    go false b e = e
+
+pub contents-both : (m : Metamodel) (g : Graph) (n : ℕ) → contents_of m g n ≡ map (λ (e : Edge). e.target) (filter (λ (e : Edge). eqb e.source n && is_containment m e.reference) g.edges)
+contents-both m g n = ap (map (λ (e : Edge). e.target)) (filter-both (λ (e : Edge). eqb e.source n) (λ (e : Edge). is_containment m e.reference) g.edges)
+
 -- ---- sources are numbers that objects can have
 
-rise-below : (low high : ℕ) (ns : List ℕ) → Rise low ns high → All (λ n. n < high) ns
+pub rise-below : (low high : ℕ) (ns : List ℕ) → Rise low ns high → All (λ n. n < high) ns
 rise-below low high [] r = All-nil (λ n. n < high)
 rise-below low high (n ∷ ns) r = All-cons (λ n. n < high) n ns (reaches (n + 1) ns r.1 (omega arith)) (rise-below (n + 1) high ns r.1)
   where
@@ -26,7 +39,7 @@ rise-below low high (n ∷ ns) r = All-cons (λ n. n < high) n ns (reaches (n + 
     reaches k [] s h = omega (arith, s, h)
     reaches k (j ∷ ks) s h = reaches (j + 1) ks s.1 (let le = s.0 in omega (arith, le, h))
 
-stands-below : (m : Metamodel) (g : Graph) (P : ℕ → Type 0) (n : ℕ) → IsTyped m g → Stands g P n → n < g.next_object
+pub stands-below : (m : Metamodel) (g : Graph) (P : ℕ → Type 0) (n : ℕ) → IsTyped m g → Stands g P n → n < g.next_object
 stands-below m g P n typed s = go (object_at g n) refl s
   where
     go : (o : Option Object) → object_at g n ≡ o → IsSomeAnd o (λ object. P object.class) → n < g.next_object
@@ -50,8 +63,34 @@ contained-source p n k high (e ∷ es) a h = go (contained-source p n k high es 
         let below = All-head (λ (e : Edge). e.source < high) e es a in omega (arith, same, below)
     go later false t f = later f
 
-sources-below : (m : Metamodel) (g : Graph) → IsTyped m g → All (λ (e : Edge). e.source < g.next_object) g.edges
+pub sources-below : (m : Metamodel) (g : Graph) → IsTyped m g → All (λ (e : Edge). e.source < g.next_object) g.edges
 sources-below m g typed = λ i e h. stands-below m g _ _ typed (typed.edges_fit i e h).0
+
+contained-target : (p : Edge → Bool) (k : ℕ) (high : ℕ) (es : List Edge) → All (λ (e : Edge). e.target < high) es → has (map (λ (e : Edge). e.target) (filter p es)) k ≡ true → k < high
+contained-target p k high [] a h = absurd (false≢true h)
+contained-target p k high (e ∷ es) a h = go (contained-target p k high es (All-tail (λ (e : Edge). e.target < high) e es a)) (p e) h
+  where
+    here : (b : Bool) → eqb k e.target ≡ b → (has (map (λ (e : Edge). e.target) (filter p es)) k ≡ true → k < high) → (b || has (map (λ (e : Edge). e.target) (filter p es)) k) ≡ true → k < high
+    here true t later f = let same = eqb-true k e.target t in let below = All-head (λ (e : Edge). e.target < high) e es a in omega (arith, same, below)
+    here false t later f = later f
+
+    go : (has (map (λ (e : Edge). e.target) (filter p es)) k ≡ true → k < high) → (b : Bool) → has (map (λ (e : Edge). e.target) (cond b (e ∷ filter p es) (filter p es))) k ≡ true → k < high
+    go later true f = here (eqb k e.target) refl later f
+    go later false f = later f
+
+targets-below : (m : Metamodel) (g : Graph) → IsTyped m g → All (λ (e : Edge). e.target < g.next_object) g.edges
+targets-below m g typed = λ i e h. go (target_of m _) (typed.edges_fit i e h).1
+  where
+    go : {n : ℕ} (o : Option ℕ) → IsSomeAnd o (λ class. IsOf m g class n) → n < g.next_object
+    go None s = absurd s
+    go (Some class) s = stands-below m g _ _ typed s
+
+-- Both ends of a containment are numbers that objects can have.
+pub contained-below : (m : Metamodel) (g : Graph) (n k : ℕ) → IsTyped m g → Contains m g n k → (n < g.next_object) × (k < g.next_object)
+contained-below m g n k typed c = (
+  contained-source (λ (e : Edge). is_containment m e.reference) n k g.next_object g.edges (sources-below m g typed) (ap (λ ks. has ks k) (sym (contents-both m g n)) ∙ c),
+  contained-target (λ (e : Edge). eqb e.source n && is_containment m e.reference) k g.next_object g.edges (targets-below m g typed) (ap (λ ks. has ks k) (sym (contents-both m g n)) ∙ c),
+)
 
 -- ---- rows and containment
 
@@ -83,7 +122,7 @@ to_contains m g n k is = go (slice_get (contents m g) n) refl is
 
 to_extends : (m : Metamodel) (g : Graph) (n k : ℕ) → IsTyped m g → Contains m g n k → below.Extends (contents m g) n k
 to_extends m g n k typed is =
-    let within = contained-source (λ (e : Edge). is_containment m e.reference) n k g.next_object g.edges (sources-below m g typed) is in
+    let within = contained-source (λ (e : Edge). is_containment m e.reference) n k g.next_object g.edges (sources-below m g typed) (ap (λ ks. has ks k) (sym (contents-both m g n)) ∙ is) in
     subst (λ (o : Option (List ℕ)). IsSomeAnd o (λ numbers. has numbers k ≡ true)) (sym (row-within m g n within)) is
 
 to_inside : (m : Metamodel) (g : Graph) (n k : ℕ) → below.IsBelow (contents m g) n k → IsInside m g n k

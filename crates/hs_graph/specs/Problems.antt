@@ -1,8 +1,9 @@
 -- The problems of a typed graph: references with too few or too many targets, objects with more than one container, and objects that contain themselves.
-use Rattle.std.specs.Prelude.{ℕ, ◌≡◌, List, [], ◌++◌, map, length, Bool, true, false, eqb, nat_lt, ◌&&◌, Option, Some, None}
+use Rattle.std.specs.Prelude.{ℕ, ◌≡◌, List, [], ◌++◌, map, length, Bool, true, false, eqb, nat_lt, Option, Some, None}
 use Rattle.std.specs.List.{filter, flat_map, range_with_len}
 use Rattle.std.specs.Option.{option_map_or}
 use Rattle.hs_expr.specs.Verdict.{fault_if}
+use Rattle.hs_types.specs.declared.graph.Edge.{Edge}
 use Rattle.hs_types.specs.declared.graph.Graph.{Graph}
 use Rattle.hs_types.specs.declared.graph.Object.{Object}
 use Rattle.hs_types.specs.declared.meta.FeatureKind.{FeatureKind}
@@ -18,9 +19,16 @@ use Rattle.hs_graph.specs.declared.problem.ProblemKind.TheVariants as kind
 abbrev pub problem : ℕ → ProblemKind → Problem
 problem n kind = record { object = n; kind = kind }
 
--- How many targets object n has at reference f.
-abbrev pub targets_count : Graph → ℕ → ℕ → ℕ
-targets_count g n f = length (filter (λ edge. eqb edge.source n && eqb edge.reference f) g.edges)
+-- The edges that leave object n, and those that lead to it.
+abbrev pub edges_from : Graph → ℕ → List Edge
+edges_from g n = filter (λ edge. eqb edge.source n) g.edges
+
+abbrev pub edges_to : Graph → ℕ → List Edge
+edges_to g n = filter (λ edge. eqb edge.target n) g.edges
+
+-- How many of these edges are of reference f.
+abbrev pub targets_count : List Edge → ℕ → ℕ
+targets_count outgoing f = length (filter (λ edge. eqb edge.reference f) outgoing)
 
 abbrev pub is_above : ℕ → Option ℕ → Bool
 is_above count None = false
@@ -32,8 +40,9 @@ count_problems n f count (Attribute data_type default) = []
 count_problems n f count (Reference target containment lower upper) =
     fault_if (nat_lt count lower) (problem n (kind.Lower f)) ++ fault_if (is_above count upper) (problem n (kind.Upper f))
 
-abbrev pub feature_problems : Metamodel → Graph → ℕ → ℕ → List Problem
-feature_problems m g n f = option_map_or (λ feature. count_problems n f (targets_count g n f) feature.kind) (feature_at m f) []
+-- What is wrong at feature f with an object n that these edges leave.
+abbrev pub feature_problems_by : Metamodel → List Edge → ℕ → ℕ → List Problem
+feature_problems_by m outgoing n f = option_map_or (λ feature. count_problems n f (targets_count outgoing f) feature.kind) (feature_at m f) []
 
 abbrev pub contains_by : FeatureKind → Bool
 contains_by (Attribute data_type default) = false
@@ -43,13 +52,13 @@ contains_by (Reference target containment lower upper) = containment
 abbrev pub is_containment : Metamodel → ℕ → Bool
 is_containment m f = option_map_or (λ feature. contains_by feature.kind) (feature_at m f) false
 
--- How many edges contain object n.
-abbrev pub containers_count : Metamodel → Graph → ℕ → ℕ
-containers_count m g n = length (filter (λ edge. eqb edge.target n && is_containment m edge.reference) g.edges)
+-- How many of these edges contain their target.
+abbrev pub containers_count : Metamodel → List Edge → ℕ
+containers_count m incoming = length (filter (λ edge. is_containment m edge.reference) incoming)
 
 -- The objects that object n contains.
 abbrev pub contents_of : Metamodel → Graph → ℕ → List ℕ
-contents_of m g n = map (λ edge. edge.target) (filter (λ edge. eqb edge.source n && is_containment m edge.reference) g.edges)
+contents_of m g n = map (λ edge. edge.target) (filter (λ edge. is_containment m edge.reference) (edges_from g n))
 
 -- Of each number that an object can have the objects that it contains.
 abbrev pub contents : Metamodel → Graph → List (List ℕ)
@@ -59,12 +68,15 @@ contents m g = map (contents_of m g) (range_with_len 0 g.next_object)
 abbrev pub is_in_itself : Metamodel → Graph → ℕ → Bool
 is_in_itself m g n = is_below (contents m g) n n
 
--- What is wrong with an object: reference by reference in the order of its class, then its containers, then that it contains itself.
+-- What is wrong with an object that has these edges: reference by reference in the order of its class, then its containers, then that it contains itself.
+abbrev pub problems_by : Metamodel → List Edge → List Edge → Bool → Object → List Problem
+problems_by m outgoing incoming in_itself object =
+    flat_map (feature_problems_by m outgoing object.number) (features_of m object.class)
+    ++ (fault_if (nat_lt 1 (containers_count m incoming)) (problem object.number kind.Containers)
+    ++ fault_if in_itself (problem object.number kind.Cycle))
+
 abbrev pub problems_at : Metamodel → Graph → Object → List Problem
-problems_at m g object =
-    flat_map (feature_problems m g object.number) (features_of m object.class)
-    ++ (fault_if (nat_lt 1 (containers_count m g object.number)) (problem object.number kind.Containers)
-    ++ fault_if (is_in_itself m g object.number) (problem object.number kind.Cycle))
+problems_at m g object = problems_by m (edges_from g object.number) (edges_to g object.number) (is_in_itself m g object.number) object
 
 -- The problems of all objects, object by object.
 abbrev pub problems_of : Metamodel → Graph → List Problem

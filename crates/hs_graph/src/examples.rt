@@ -49,7 +49,7 @@ pub fn namings()
 
 /// Of a graph with a problem of each kind: an object that leads to a cycle doesn't lie on it, nor
 /// does one that hangs from it.
-pub fn problems()
+pub fn troubles()
     ensures { problems_of boxes boxed ≡
         problem 5 trouble.Containers ∷ problem 5 trouble.Cycle
         ∷ problem 7 (trouble.Upper 1) ∷ problem 7 trouble.Cycle

@@ -17,9 +17,12 @@ use std::alloc::Global;
 
 mod attrs;
 mod classes;
+mod climbing;
+mod containment;
 mod edges;
 mod examples;
 mod fault;
+mod index;
 mod laws;
 mod lookups;
 mod names;
@@ -30,15 +33,17 @@ mod raw;
 mod refs;
 #[cfg(test)]
 mod tests;
+mod validation;
 mod values;
 
 use crate::fault::{fault, told};
 use crate::numbers::Named;
-pub use examples::{meanings, namings, problems, wrongs};
+pub use examples::{meanings, namings, troubles, wrongs};
 pub use fault::{GraphFault, GraphFaultKind, GraphPlace};
 pub use laws::{cycles_are_reached, graphs_are_opening, graphs_are_small};
 pub use problem::{Problem, ProblemKind};
 pub use raw::{RawAttr, RawObject, RawRef, RawValue};
+pub use validation::problems;
 
 /// The most objects.
 const MOST_OBJECTS: usize = 200_000;

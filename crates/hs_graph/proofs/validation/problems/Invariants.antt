@@ -1,0 +1,7 @@
+use Rattle.std.proofs.Common.{◌≡◌, ◌++◌, drop}
+use Rattle.std.specs.List.{flat_map}
+use Rattle.hs_graph.specs.Problems as spec
+use Rattle.hs_graph.proofs.validation.problems.Given as goal
+
+abbrev pub invariant-loop-object : goal.invariant-loop-object
+invariant-loop-object l = l.problems ++ flat_map (spec.problems_at l.meta l.graph) (drop l.object-index l.object-items) ≡ spec.problems_of l.meta l.graph
