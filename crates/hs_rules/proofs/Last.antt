@@ -1,5 +1,5 @@
 -- The last two passes of a rule.
-use Rattle.std.proofs.Common.{◌≡◌, ◌++◌, ◌&&◌, List, [], Bool, not, Result, Ok, ap, subst, sym, ◌∙◌}
+use Rattle.std.proofs.Common.{◌≡◌, ◌&&◌, List, [], Bool, not, Result, Ok, ap, subst, sym, ◌∙◌}
 use Rattle.std.specs.List.{list_all}
 use Rattle.hs_expr.specs.declared.failure.Failure.{Failure}
 use Rattle.hs_expr.specs.Steps.{Gives}

@@ -1,5 +1,5 @@
 -- The expressions of the statements of a well-formed rule.
-use Rattle.std.proofs.Common.{ℕ, ◌+◌, ◌≡◌, List, [], ◌∷◌, ◌++◌, true}
+use Rattle.std.proofs.Common.{ℕ, ◌+◌, List, [], ◌∷◌}
 use Rattle.std.proofs.lemmas.List.Elements.{All-append, All-cons, All-nil}
 use Rattle.std.specs.List.{All, AllByRecursion, flat_map}
 use Rattle.hs_expr.specs.Verdict.{each_from}
@@ -11,7 +11,7 @@ use Rattle.hs_text.specs.declared.syntax.Mark.{Mark}
 use Rattle.hs_text.specs.declared.syntax.Mark.TheVariants.{Preserve}
 use Rattle.hs_text.specs.declared.syntax.Simple.{Simple}
 use Rattle.hs_text.specs.declared.syntax.Simple.TheVariants as simple
-use Rattle.hs_text.specs.WellFormed.{IsElementFine, IsItemFine, IsSimpleFine}
+use Rattle.hs_text.specs.WellFormed.{IsItemFine, IsSimpleFine}
 use Rattle.hs_rules.specs.declared.nodes.Home.{Home}
 use Rattle.hs_rules.specs.declared.nodes.Home.TheVariants.{Kernel, Pattern, Multi}
 use Rattle.hs_rules.specs.Depths.{IsWhole}

@@ -6,12 +6,10 @@ use Rattle.hs_expr.specs.Verdict.{each, fault_if}
 use Rattle.hs_text.specs.declared.syntax.Mark.{Mark}
 use Rattle.hs_text.specs.declared.syntax.Mark.TheVariants.{Preserve, Create, Delete}
 use Rattle.hs_text.specs.declared.syntax.Param.{Param}
-use Rattle.hs_text.specs.declared.syntax.Rule.{Rule}
 use Rattle.hs_types.specs.declared.meta.Metamodel.{Metamodel}
 use Rattle.hs_rules.specs.declared.nodes.DeclaredNode.{DeclaredNode}
 use Rattle.hs_rules.specs.declared.fault.RuleFault.{RuleFault}
 use Rattle.hs_rules.specs.declared.fault.RuleFaultKind.TheVariants as kind
-use Rattle.hs_rules.specs.Nodes.{declared_nodes}
 use Rattle.hs_rules.specs.Named.{first_named}
 use Rattle.hs_rules.specs.Names.{class_named, data_named, has_concrete, is_concrete}
 use Rattle.hs_rules.specs.Places.{fault_at}

@@ -13,3 +13,5 @@ pub mod Depths
 pub mod FourthPass
 pub mod Faults
 pub mod SeenRules
+pub mod UnitFaults
+pub mod Samples

@@ -30,6 +30,10 @@ pub enum RuleFaultKind {
     NotRead,
     /// An expression, or an operand in it, has a kind that its place doesn't take.
     BadKind,
+    /// A call names no rule and no unit.
+    UnknownUnit,
+    /// A unit calls itself, by one call or more.
+    UnitCycle,
     /// There is more of something than a rule or a unit may have, or there are too many of them.
     Limit,
 }

@@ -6,6 +6,7 @@
 #![tactic(auto)]
 
 mod edges;
+mod examples;
 mod fault;
 mod first_pass;
 mod known;
@@ -23,6 +24,7 @@ mod tests;
 mod third_pass;
 mod written;
 
+pub use examples::{edges_tried, names_tried, sets_tried};
 pub use fault::{RuleFault, RuleFaultKind};
 pub use nodes::{DeclaredNode, Home};
 pub use rules::check_rules;
