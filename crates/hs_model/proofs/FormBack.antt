@@ -8,7 +8,7 @@ use Rattle.serde_json.specs.View.{items_of}
 use Rattle.hs_expr.specs.declared.value.Value.{Value}
 use Rattle.hs_expr.specs.declared.value.Value.TheVariants as value
 use Rattle.hs_expr.specs.Evaluation.{is_within}
-use Rattle.hs_forms.specs.Form.{Read, each_from, each_member, entries, integer, items, list_of, text}
+use Rattle.hs_forms.specs.Form.{Read, each_from, each_member, entries, items, list_of, text}
 use Rattle.hs_types.specs.declared.graph.Graph.{Graph}
 use Rattle.hs_types.specs.declared.graph.Object.{Object}
 use Rattle.hs_types.specs.declared.graph.Slot.{Slot}
