@@ -3,4 +3,5 @@ pub mod Floats
 pub mod FormBack
 pub mod Lists
 pub mod NamesBack
+pub mod SlotsBack
 pub mod Sorted
