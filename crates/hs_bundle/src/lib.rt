@@ -5,9 +5,11 @@
 #![tactic(auto)]
 
 mod fault;
+mod laws;
 mod reading;
 #[cfg(test)]
 mod tests;
 
 pub use fault::BundleFault;
+pub use laws::graphs_are_read_back;
 pub use reading::{Bundle, read_bundle};
