@@ -1,11 +1,10 @@
 -- What bundles hold is sound.
-use Rattle.std.proofs.Common.{ℕ, ◌≡◌, List, [], ◌∷◌, Option, Some, None, Result, Ok, Err, refl, ap, sym, ◌∙◌, subst, codes, IfOk}
+use Rattle.std.proofs.Common.{◌≡◌, List, [], ◌∷◌, Option, Some, None, Result, Ok, Err, refl, ap, sym, ◌∙◌, subst, codes, IfOk}
 use Rattle.std.specs.Arc.{arc_value}
 use Rattle.serde_json.specs.Data.{Data}
 use Rattle.serde_json.specs.Find.{get}
 use Rattle.hs_expr.specs.declared.failure.Failure.{Failure}
 use Rattle.hs_expr.specs.Steps.{◌>>=◌, GivesBy}
-use Rattle.hs_forms.specs.Form.{Read}
 use Rattle.hs_graph.specs.declared.fault.GraphFault.{GraphFault}
 use Rattle.hs_graph.specs.declared.fault.GraphFaultKind.{GraphFaultKind}
 use Rattle.hs_graph.specs.declared.raw.RawObject.{RawObject}
@@ -15,7 +14,6 @@ use Rattle.hs_graph.specs.Meaning as graph
 use Rattle.hs_graph.proofs.Opening.{few-edges, few-objects, opening}
 use Rattle.hs_meta.specs.declared.fault.ModelFault.{ModelFault}
 use Rattle.hs_meta.specs.declared.fault.ModelFaultKind.{ModelFaultKind}
-use Rattle.hs_meta.specs.declared.raw.RawMeta.{RawMeta}
 use Rattle.hs_meta.specs.Faults as wrong_model
 use Rattle.hs_meta.specs.Meaning as model
 use Rattle.hs_meta.proofs.IsMeta.{meant-is_meta, meant-is_small}

@@ -121,12 +121,8 @@ fn problem_value(
     match kind {
         ProblemKind::Lower(reference) => bound_value(alloc, meta, object, "lower", reference),
         ProblemKind::Upper(reference) => bound_value(alloc, meta, object, "upper", reference),
-        ProblemKind::Containers => {
-            json!(in alloc; {"object": object, "problem": "containers"})
-        }
-        ProblemKind::Cycle => {
-            json!(in alloc; {"object": object, "problem": "cycle"})
-        }
+        ProblemKind::Containers => { json!(in alloc; {"object": object, "problem": "containers"}) }
+        ProblemKind::Cycle => { json!(in alloc; {"object": object, "problem": "cycle"}) }
     }
 }
 

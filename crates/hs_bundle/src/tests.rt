@@ -114,7 +114,10 @@ fn a_graph_without_problems_has_the_count_alone(rt: HostRuntime) -> Result<(), A
         r#"{"meta":{"classes":[{"name":"A","references":[{"name":"few","target":"A","lower":1,"upper":2}]}]},"graph":[{"name":"a","class":"A","refs":{"few":["a","b"]}},{"name":"b","class":"A","refs":{"few":["a"]}}]}"#,
         r#"{"meta":{"classes":[{"name":"A","references":[{"name":"parts","target":"A","containment":true,"upper":-1}]}]},"graph":[{"name":"a","class":"A","refs":{"parts":["b","c"]}},{"name":"b","class":"A","refs":{"parts":["d"]}},{"name":"c","class":"A"},{"name":"d","class":"A"}]}"#,
     ] {
-        assert!(rt; has_problems(rt.alloc(), text, &[r#"{"problems":0}"#])?, "{text}");
+        assert!(rt;
+            has_problems(rt.alloc(), text, &[r#"{"problems":0}"#])?,
+            "{text}"
+        );
     }
     Ok(())
 }

@@ -1,4 +1,3 @@
-use Rattle.std.proofs.Common.{◌≡◌}
 use Rattle.hs_bundle.specs.Problems.{line_of, problem_data}
 use Rattle.hs_bundle.proofs.Lines.{one_line_more}
 use Rattle.hs_bundle.proofs.problems.add_problems.Goals as goal
