@@ -6,3 +6,6 @@ mod MeantBack
 mod Counted
 mod NoFaults
 mod GraphBack
+pub mod Sound
+pub mod Floats
+pub mod Lines

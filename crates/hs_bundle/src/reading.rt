@@ -1,4 +1,5 @@
 ghost use Rattle.std.specs.Prelude.{◌≡◌, ◌≤◌, [], length, codes, Ok, IfErr, IfOk};
+ghost use Rattle.std.specs.Arc.{arc_value};
 ghost use Rattle.serde_json.specs.Errors.{IsMemory};
 ghost use Rattle.serde_json.specs.Find.{get};
 ghost use Rattle.serde_json.specs.View.{view};
@@ -10,6 +11,7 @@ ghost use Rattle.hs_model.specs.Meta.{meta_at};
 ghost use Rattle.hs_types.specs.declared.meta.Metamodel.{Metamodel};
 ghost use Rattle.hs_bundle.specs.declared.fault.BundleFault.TheVariants as fault;
 ghost use Rattle.hs_bundle.specs.Reading as spec;
+ghost use Rattle.hs_bundle.specs.Sound.{IsSound};
 
 use crate::BundleFault;
 use hs_expr::{Failure, List, Text};
@@ -32,9 +34,10 @@ pub struct Bundle {
 }
 
 /// Reads the bundle that the bytes are, or tells its first fault: bytes that are no JSON, then the
-/// bundle's own form, then the metamodel, then the graph.
+/// bundle's own form, then the metamodel, then the graph. What is read is sound.
 pub fn read_bundle(alloc: Global, bytes: &[u8]) -> Result<Bundle, Failure<BundleFault>>
-    ensures { spec.Answers bytes.now result }
+    ensures answers { spec.Answers bytes.now result }
+    ensures sound { IfOk result (λ bundle. IsSound (arc_value bundle.graph.meta) bundle.graph.graph) }
 {
     let value = json_of(alloc, bytes)?;
     bundle_of(alloc, value)

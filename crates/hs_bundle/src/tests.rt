@@ -1,4 +1,4 @@
-use crate::read_bundle;
+use crate::{problems_text, read_bundle};
 use hs_expr::Failure;
 use std::alloc::{AllocError, Global};
 
@@ -89,5 +89,94 @@ fn faults_of_the_graph_have_their_lines(rt: HostRuntime) -> Result<(), AllocErro
     ] {
         assert!(rt; tells(rt.alloc(), text, Some(line))?, "{text}");
     }
+    Ok(())
+}
+
+/// Whether the problems of the bundle's graph are told by these lines and no others.
+fn has_problems(alloc: Global, text: &str, lines: &[&str]) -> Result<bool, AllocError> {
+    let bundle = match read_bundle(alloc, text.as_bytes()) {
+        Ok(bundle) => bundle,
+        Err(_) => return Ok(false),
+    };
+    let mut expected = String::new(alloc);
+    for line in lines {
+        expected.push_str(line)?;
+        expected.push('\n')?;
+    }
+    let told = problems_text(alloc, &bundle.graph.meta, &bundle.graph.graph)?;
+    Ok(told.as_str() == expected.as_str())
+}
+
+#[test]
+fn a_graph_without_problems_has_the_count_alone(rt: HostRuntime) -> Result<(), AllocError> {
+    for text in [
+        r#"{"meta":{"classes":[]}}"#,
+        r#"{"meta":{"classes":[{"name":"A","references":[{"name":"few","target":"A","lower":1,"upper":2}]}]},"graph":[{"name":"a","class":"A","refs":{"few":["a","b"]}},{"name":"b","class":"A","refs":{"few":["a"]}}]}"#,
+        r#"{"meta":{"classes":[{"name":"A","references":[{"name":"parts","target":"A","containment":true,"upper":-1}]}]},"graph":[{"name":"a","class":"A","refs":{"parts":["b","c"]}},{"name":"b","class":"A","refs":{"parts":["d"]}},{"name":"c","class":"A"},{"name":"d","class":"A"}]}"#,
+    ] {
+        assert!(rt;
+            has_problems(rt.alloc(), text, &[r#"{"problems":0}"#])?,
+            "{text}"
+        );
+    }
+    Ok(())
+}
+
+#[test]
+fn an_account_of_two_owners_is_told(rt: HostRuntime) -> Result<(), AllocError> {
+    let text =
+        r#"{"meta":{"classes":[{"name":"Client","references":[{"name":"accounts","target":"Account","upper":-1}]},{"name":"Account","attributes":[{"name":"balance","type":"EInt"}],"references":[{"name":"owner","target":"Client"}]}]},"graph":[{"name":"c1","class":"Client"},{"name":"c2","class":"Client"},{"name":"a1","class":"Account","refs":{"owner":["c1","c2"]}}]}"#;
+    let lines = [
+        r#"{"object":"a1","problem":"upper","reference":"Account.owner"}"#,
+        r#"{"problems":1}"#,
+    ];
+    assert!(rt; has_problems(rt.alloc(), text, &lines)?);
+    Ok(())
+}
+
+#[test]
+fn bounds_are_told_by_the_owning_class(rt: HostRuntime) -> Result<(), AllocError> {
+    let text =
+        r#"{"meta":{"classes":[{"name":"Named","abstract":true,"references":[{"name":"near","target":"Named","lower":1,"upper":2}]},{"name":"Box","supers":["Named"],"references":[{"name":"one","target":"Box","lower":1}]}]},"graph":[{"name":"a","class":"Box"},{"name":"b","class":"Box","refs":{"near":["a","a","b"],"one":["a"]}},{"name":"c","class":"Box","refs":{"one":["a","b"],"near":["a","b"]}}]}"#;
+    let lines = [
+        r#"{"object":"a","problem":"lower","reference":"Named.near"}"#,
+        r#"{"object":"a","problem":"lower","reference":"Box.one"}"#,
+        r#"{"object":"b","problem":"upper","reference":"Named.near"}"#,
+        r#"{"object":"c","problem":"upper","reference":"Box.one"}"#,
+        r#"{"problems":4}"#,
+    ];
+    assert!(rt; has_problems(rt.alloc(), text, &lines)?);
+    Ok(())
+}
+
+#[test]
+fn containers_and_cycles_are_told(rt: HostRuntime) -> Result<(), AllocError> {
+    let text =
+        r#"{"meta":{"classes":[{"name":"A","references":[{"name":"parts","target":"A","containment":true,"upper":-1},{"name":"next","target":"A","upper":-1}]}]},"graph":[{"name":"one","class":"A","refs":{"parts":["one"]}},{"name":"front","class":"A","refs":{"parts":["first"]}},{"name":"first","class":"A","refs":{"parts":["second"]}},{"name":"second","class":"A","refs":{"parts":["first","behind"]}},{"name":"x","class":"A","refs":{"parts":["y"]}},{"name":"y","class":"A","refs":{"parts":["z"]}},{"name":"z","class":"A","refs":{"parts":["x"],"next":["front"]}},{"name":"behind","class":"A","refs":{"next":["behind"]}}]}"#;
+    let lines = [
+        r#"{"object":"one","problem":"cycle"}"#,
+        r#"{"object":"first","problem":"containers"}"#,
+        r#"{"object":"first","problem":"cycle"}"#,
+        r#"{"object":"second","problem":"cycle"}"#,
+        r#"{"object":"x","problem":"cycle"}"#,
+        r#"{"object":"y","problem":"cycle"}"#,
+        r#"{"object":"z","problem":"cycle"}"#,
+        r#"{"problems":7}"#,
+    ];
+    assert!(rt; has_problems(rt.alloc(), text, &lines)?);
+    Ok(())
+}
+
+#[test]
+fn a_bound_stands_before_containment(rt: HostRuntime) -> Result<(), AllocError> {
+    let text =
+        r#"{"meta":{"classes":[{"name":"A","references":[{"name":"parts","target":"A","containment":true,"upper":2}]}]},"graph":[{"name":"the \"a\"","class":"A","refs":{"parts":["the \"a\"","the \"a\"","b"]}},{"name":"b","class":"A"}]}"#;
+    let lines = [
+        r#"{"object":"the \"a\"","problem":"upper","reference":"A.parts"}"#,
+        r#"{"object":"the \"a\"","problem":"containers"}"#,
+        r#"{"object":"the \"a\"","problem":"cycle"}"#,
+        r#"{"problems":3}"#,
+    ];
+    assert!(rt; has_problems(rt.alloc(), text, &lines)?);
     Ok(())
 }

@@ -1,0 +1,15 @@
+-- What holds of a metamodel and a graph that are read together.
+use Rattle.std.specs.Prelude.{◌≤◌, length}
+use Rattle.hs_types.specs.declared.graph.Graph.{Graph}
+use Rattle.hs_types.specs.declared.meta.Metamodel.{Metamodel}
+use Rattle.hs_types.specs.Limits.{IsSmallMeta}
+use Rattle.hs_types.specs.Metamodel.{IsMeta}
+use Rattle.hs_types.specs.TypedGraph.{IsOpening}
+
+-- A metamodel that keeps the limits, and over it a graph from which a journal begins, of at most 200,000 objects and 400,000 edges.
+pub record IsSound (m : Metamodel) (g : Graph) : Type 0 where
+  pub is_meta : IsMeta m
+  pub is_small : IsSmallMeta m
+  pub is_opening : IsOpening m g
+  pub few_objects : length g.objects ≤ 200000
+  pub few_edges : length g.edges ≤ 400000
