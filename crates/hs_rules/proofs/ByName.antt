@@ -55,3 +55,28 @@ new_is old false there e f = ap not (sym e ∙ f)
 pub not_there : (new there : Bool) → new ≡ not there → new ≡ true → there ≡ false
 not_there new true e f = sym f ∙ e
 not_there new false e f = refl
+
+found_front : {T : Type 0} (found : Option T) (more : Option T) → is_some found ≡ true → option_or found more ≡ found
+found_front None more e = absurd (false≢true e)
+found_front (Some x) more e = refl
+
+found_there : {T : Type 0} (here there : Bool) (front back : Option T) → (here ≡ true → is_some front ≡ true) → there ≡ here → back ≡ cond there back None → option_or front back ≡ front
+found_there true there (Some x) back h e none = refl
+found_there true there None back h e none = absurd (false≢true (h refl))
+found_there false true front back h e none = absurd (false≢true (sym e))
+found_there false false (Some x) back h e none = refl
+found_there false false None back h e none = none
+
+-- An item whose name is there changes nothing.
+pub known_again : {T : Type 0} (name_of : T → Name) (items : List T) (item : T) (known : BTreeMap (Bor (List ℕ)) (Bor T)) →
+    Knows name_of known items → is_some (first_named name_of items (name_of item).text) ≡ true → Knows name_of known (items ++ item ∷ [])
+known_again name_of items item known knows there = λ name.
+    knows name
+    ∙ sym (found_there (same_text name (name_of item).text) (same_text name (name_of item).text) (first_named name_of items name) (cond (same_text name (name_of item).text) (Some item) None)
+    (λ e. ap (λ t. is_some (first_named name_of items t)) ((bytes_eq-Decides name (name_of item).text).0 e) ∙ there)
+    refl (only_then (same_text name (name_of item).text) item))
+    ∙ sym (find-append (λ other. same_text name (name_of other).text) items (item ∷ []))
+  where
+    only_then : {T : Type 0} (b : Bool) (item : T) → cond b (Some item) None ≡ cond b (cond b (Some item) None) None
+    only_then true item = refl
+    only_then false item = refl

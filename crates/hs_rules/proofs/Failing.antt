@@ -38,3 +38,11 @@ pub passed_on : {F : Type 0} (result : Result (Unit {0}) (Failure F)) (failure :
     IsErrAnd result (λ e. e ≡ failure) → Fails failure told → Gives result told
 passed_on (Ok x) failure told is e = absurd is
 passed_on (Err other) failure told is e = subst (λ f. Fails f told) (sym is) e
+
+-- Behind item i without fault, the faults of the rest stay.
+pub goes_on : {X F : Type 0} (finds : ℕ → X → List F) (xs : List X) (i : ℕ) (x : X) (whole : Result (Unit {0}) F) →
+    i < length xs → get_or xs i x ≡ x → verdict (each_from finds i (drop i xs)) ≡ whole → verdict (finds i x) ≡ Ok tt → verdict (each_from finds (i + 1) (drop (i + 1) xs)) ≡ whole
+goes_on finds xs i x whole h is rest none =
+    sym (verdict-append-ok (finds i x) (each_from finds (i + 1) (drop (i + 1) xs)) none)
+    ∙ ap (λ y. verdict (finds i y ++ each_from finds (i + 1) (drop (i + 1) xs))) (sym is)
+    ∙ ap verdict (sym (each_from-drop finds xs i x h)) ∙ rest

@@ -8,9 +8,11 @@ use Rattle.hs_expr.specs.Verdict.{verdict}
 use Rattle.hs_expr.proofs.Verdicts.{verdict-append-ok}
 use Rattle.hs_text.specs.declared.syntax.Definition.{Definition}
 use Rattle.hs_text.specs.declared.syntax.Rule.{Rule}
+use Rattle.hs_text.specs.declared.syntax.Unit.{Unit as WrittenUnit}
 use Rattle.hs_types.specs.declared.meta.Metamodel.{Metamodel}
 use Rattle.hs_rules.specs.declared.fault.RuleFault.{RuleFault}
 use Rattle.hs_rules.specs.Faults.{faults_behind, faults_of_definition, rule_of}
+use Rattle.hs_rules.specs.UnitFaults.{unit_faults_behind, unit_faults_of_definition, unit_of}
 
 nothing_behind : {A : Type 0} (xs : List A) → xs ++ [] ≡ xs
 nothing_behind [] = refl
@@ -35,3 +37,19 @@ definition_next m before definitions i d whole h is rest none =
 pub all_from : {A : Type 0} (P : A → Type 0) (xs : List A) → AllByRecursion P xs → All P xs
 all_from P [] fine = All-nil P
 all_from P (x ∷ xs) fine = All-cons P x xs fine.0 (all_from P xs fine.1)
+
+-- The units up to definition i, and behind it.
+pub units_more : (definitions : List Definition) (i : ℕ) (d : Definition) → i < length definitions → get_or definitions i d ≡ d →
+    flat_map unit_of (take (i + 1) definitions) ≡ flat_map unit_of (take i definitions) ++ unit_of d
+units_more definitions i d h is =
+    ap (flat_map unit_of) (take_more definitions i d h ∙ ap (λ y. take i definitions ++ y ∷ []) is)
+    ∙ flat_map-append unit_of (take i definitions) (d ∷ [])
+    ∙ ap (λ units. flat_map unit_of (take i definitions) ++ units) (nothing_behind (unit_of d))
+
+-- Behind definition i without fault, the faults of the other units stay.
+pub unit_next : (m : Metamodel) (rules : List Rule) (units before : List WrittenUnit) (definitions : List Definition) (i : ℕ) (d : Definition) (whole : Result (Unit {0}) RuleFault) →
+    i < length definitions → get_or definitions i d ≡ d → verdict (unit_faults_behind m rules units before (drop i definitions)) ≡ whole →
+    verdict (unit_faults_of_definition m rules units before d) ≡ Ok tt → verdict (unit_faults_behind m rules units (before ++ unit_of d) (drop (i + 1) definitions)) ≡ whole
+unit_next m rules units before definitions i d whole h is rest none =
+    sym (verdict-append-ok (unit_faults_of_definition m rules units before d) (unit_faults_behind m rules units (before ++ unit_of d) (drop (i + 1) definitions)) none)
+    ∙ ap (λ ds. verdict (unit_faults_behind m rules units before ds)) (sym (drop_more definitions i d h ∙ ap (λ y. y ∷ drop (i + 1) definitions) is)) ∙ rest

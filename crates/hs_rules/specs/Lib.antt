@@ -2,6 +2,7 @@ pub mod Answers
 pub mod Places
 pub mod Nodes
 pub mod Named
+pub mod Bound
 pub mod Names
 pub mod FirstPass
 pub mod SecondPass
@@ -14,4 +15,6 @@ pub mod FourthPass
 pub mod Faults
 pub mod SeenRules
 pub mod UnitFaults
+pub mod Signed
+pub mod SeenUnits
 pub mod Samples

@@ -1,5 +1,5 @@
 ghost use Rattle.std.specs.Prelude.{◌≡◌};
-ghost use Rattle.hs_rules.specs.Places.{fault_at};
+ghost use Rattle.hs_rules.specs.Places.{fault_at, unit_fault_at};
 
 use hs_expr::Span;
 
@@ -53,6 +53,18 @@ pub fn fault_at(span: Span, kind: RuleFaultKind) -> RuleFault
 {
     RuleFault {
         in_unit: false,
+        line: span.line,
+        column: span.column,
+        kind,
+    }
+}
+
+/// This is wrong in a unit, at this place.
+pub fn unit_fault_at(span: Span, kind: RuleFaultKind) -> RuleFault
+    ensures { result ≡ unit_fault_at span kind }
+{
+    RuleFault {
+        in_unit: true,
         line: span.line,
         column: span.column,
         kind,

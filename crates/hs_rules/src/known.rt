@@ -1,11 +1,11 @@
 //! Items by their names.
 
-ghost use Rattle.std.specs.Prelude.{◌≡◌, ◌++◌, ◌∷◌, [], ℕ, List, IfOk, not, is_some, true, option_copied};
+ghost use Rattle.std.specs.Prelude.{◌≡◌, ◌++◌, ◌∷◌, [], ℕ, List, IfOk, OnOk, not, is_some, true, option_copied};
 ghost use Rattle.hs_rules.specs.Named.{Knows, first_named};
 
 use crate::nodes::DeclaredNode;
 use hs_expr::Name;
-use hs_text::{Param, Rule};
+use hs_text::{Bind, Param, Rule, Unit};
 use std::alloc::{AllocError, Global};
 use std::collections::BTreeMap;
 
@@ -43,6 +43,27 @@ impl Named for DeclaredNode {
     }
 }
 
+impl Named for Unit {
+    ghost named = { λ unit. unit.name };
+
+    fn name(&self) -> &Name {
+        &self.name
+    }
+}
+
+/// A bind has the name of the parameter that it ties.
+impl Named for Bind {
+    ghost use Rattle.hs_rules.specs.Bound.{bound_name};
+
+    ghost named = { bound_name };
+
+    fn name(&self) -> &Name {
+        match self {
+            Bind::Give { parameter, .. } | Bind::Take { parameter, .. } => parameter,
+        }
+    }
+}
+
 /// Items by their names.
 pub type Known<'a, T> = BTreeMap<&'a str, &'a T>;
 
@@ -61,4 +82,26 @@ pub fn find_named<'a, T: Named>(known: &Known<'a, T>, name: &str) -> Option<&'a 
     ensures { (items : List T) → Knows T.named known.now items → option_copied result ≡ first_named T.named items name.now }
 {
     known.get(name).copied()
+}
+
+/// Adds the item, unless there is one of its name.
+#[tactic(auto, using(crate::proofs::ByName::known_again))]
+pub fn keep_first<'a, T: Named>(known: &mut Known<'a, T>, item: &'a T) -> Result<(), AllocError>
+    ensures { (before : List T) → Knows T.named known.old before → OnOk result (Knows T.named known.new (before ++ item.now ∷ [])) }
+{
+    if find_named(known, item.name().text.as_str()).is_none() {
+        add_named(known, item)?;
+    }
+    Ok(())
+}
+
+/// The items by their names, of a name the first.
+pub fn known_of<'a, T: Named>(alloc: Global, items: &'a [T]) -> Result<Known<'a, T>, AllocError>
+    ensures { IfOk result (λ known. Knows T.named known items.now) }
+{
+    let mut known = Known::new(alloc);
+    for item in items {
+        keep_first(&mut known, item)?;
+    }
+    Ok(known)
 }

@@ -5,6 +5,11 @@
 //! ([`nodes`]), which the passes look into by name.
 #![tactic(auto)]
 
+mod arguments;
+
+mod callees;
+mod calls;
+mod cycles;
 mod edges;
 mod examples;
 mod fault;
@@ -18,10 +23,13 @@ mod rule;
 mod rules;
 mod scope;
 mod second_pass;
+mod signature;
 mod statements;
 #[cfg(test)]
 mod tests;
 mod third_pass;
+mod units;
+
 mod written;
 
 pub use examples::{edges_tried, names_tried, sets_tried};

@@ -3,7 +3,7 @@ ghost use Rattle.hs_rules.specs.Named.{Knows, first_named};
 
 use crate::known::{Known, Named, find_named};
 use crate::nodes::DeclaredNode;
-use hs_text::Param;
+use hs_text::{Bind, Param};
 use std::marker::Model;
 
 /// Items with a way to look them up by name. Contracts see it as the list of the items.
@@ -18,6 +18,9 @@ pub type NodeMap<'a> = NameMap<'a, DeclaredNode>;
 
 /// The parameters of a rule.
 pub type ParamMap<'a> = NameMap<'a, Param>;
+
+/// The binds of a call, by the parameters that they tie.
+pub type BindMap<'a> = NameMap<'a, Bind>;
 
 impl<'a, T: Named> Model for NameMap<'a, T> {
     ghost use Rattle.std.specs.Prelude.{List};

@@ -32,7 +32,7 @@ fn attribute_kind(meta: &Meta, node: &DeclaredNode, name: &str) -> Option<Kind>
     kind_named(meta, class, name)
 }
 
-fn same_kind(one: Kind, other: Kind) -> bool
+pub fn same_kind(one: Kind, other: Kind) -> bool
     ensures { result ≡ spec.same_kind one other }
 {
     match (one, other) {

@@ -1,0 +1,19 @@
+use Rattle.std.proofs.Common.{◌≡◌, ◌+◌, ◌++◌, List, drop, take, ap, subst, sym, ◌∙◌}
+use Rattle.hs_expr.specs.Verdict.{verdict}
+use Rattle.hs_text.specs.declared.syntax.Unit.{Unit as WrittenUnit}
+use Rattle.hs_rules.proofs.Following.{unit_next, units_more}
+use Rattle.hs_rules.specs.SeenUnits.{HasSeenUnits}
+use Rattle.hs_rules.specs.UnitFaults.{faults_of_each, rules_of, unit_faults_behind, unit_of, units_of}
+use Rattle.hs_rules.proofs.units.each_right.Goals as goal
+
+pub loop-definition-preserved : goal.loop-definition-preserved
+loop-definition-preserved c =
+    let before = units_of (take c.loop-definition.definition-index c.args.definitions.now) in
+    let more : units_of (take (c.loop-definition.definition-index + 1) c.args.definitions.now) ≡ before ++ unit_of c.definition-item.result = units_more c.args.definitions.now c.loop-definition.definition-index c.definition-item.result c.loop-definition-test.true (sym c.definition-item.is) in
+    record {
+      seen = subst (λ (units : List WrittenUnit). HasSeenUnits c.definition_right.new.seen units) (sym more) (c.in_ok-definition_right.ensures.seen before c.loop-definition.invariant.seen);
+      rest = ap (λ (units : List WrittenUnit). verdict (unit_faults_behind c.args.meta.now (rules_of c.args.callees.now) (units_of c.args.callees.now) units (drop (c.loop-definition.definition-index + 1) c.args.definitions.now))) more
+          ∙ unit_next c.args.meta.now (rules_of c.args.callees.now) (units_of c.args.callees.now) before c.args.definitions.now c.loop-definition.definition-index c.definition-item.result (verdict (faults_of_each c.args.meta.now c.args.definitions.now))
+          c.loop-definition-test.true (sym c.definition-item.is) c.loop-definition.invariant.rest
+          (c.in_ok-definition_right.ensures.told before c.loop-definition.invariant.seen);
+    }
