@@ -6,7 +6,6 @@
 #![tactic(auto)]
 
 mod arguments;
-
 mod callees;
 mod calls;
 mod cycles;
@@ -29,7 +28,6 @@ mod statements;
 mod tests;
 mod third_pass;
 mod units;
-
 mod written;
 
 pub use examples::{edges_tried, names_tried, sets_tried};
