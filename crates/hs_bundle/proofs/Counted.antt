@@ -1,5 +1,5 @@
 -- A graph has no fewer edges than begin at its objects.
-use Rattle.std.proofs.Common.{ℕ, suc, ◌+◌, ◌≤◌, ◌≡◌, ◌||◌, ◌++◌, List, [], ◌∷◌, Bool, true, false, cond, map, length, eqb, refl, ap, sym, ◌∙◌, subst, arith, length-append}
+use Rattle.std.proofs.Common.{ℕ, suc, ◌+◌, ◌≤◌, ◌≡◌, ◌||◌, List, [], ◌∷◌, Bool, true, false, cond, map, length, eqb, refl, ap, sym, ◌∙◌, arith, length-append}
 use Rattle.std.proofs.lemmas.Bool.{eqb-true, false≢true}
 use Rattle.std.proofs.lemmas.List.Elements.{All-nil, All-cons, All-head, All-tail, All-weaker}
 use Rattle.std.specs.List.{All, filter, flat_map}
@@ -11,7 +11,7 @@ use Rattle.hs_types.specs.Lists.{Differ, Rise, has}
 use Rattle.hs_types.specs.Metamodel.{IsMeta, features_of}
 use Rattle.hs_types.specs.TypedGraph.{IsTyped}
 use Rattle.hs_laws.proofs.Lists.{Differ-apart, below_differs}
-use Rattle.hs_model.specs.Renumbered.{edges_by, link_between, links_at, links_from}
+use Rattle.hs_model.specs.Renumbered.{link_between, links_at, links_from}
 use Rattle.hs_model.specs.Written.{edges_from}
 use Rattle.hs_model.proofs.NamesBack.{name_at, names_differ}
 

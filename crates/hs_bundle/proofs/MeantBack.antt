@@ -9,7 +9,6 @@ use Rattle.hs_types.specs.declared.meta.Metamodel.{Metamodel}
 use Rattle.hs_types.specs.Metamodel.{IsMeta}
 use Rattle.hs_types.specs.TypedGraph.{AreSlotsOf, IsTyped}
 use Rattle.hs_graph.specs.declared.edges.Link.{Link}
-use Rattle.hs_graph.specs.declared.raw.RawObject.{RawObject}
 use Rattle.hs_graph.specs.Links.{all_links}
 use Rattle.hs_graph.specs.Meaning as meaning
 use Rattle.hs_graph.specs.Meaning.{meant}
