@@ -1,5 +1,5 @@
 -- A written graph is read back.
-use Rattle.std.proofs.Common.{ℕ, ◌≡◌, List, map, Result, Ok, ap, ◌∙◌}
+use Rattle.std.proofs.Common.{◌≡◌, List, map, Ok, ap, ◌∙◌}
 use Rattle.hs_expr.specs.Steps.{◌>>=◌}
 use Rattle.hs_forms.specs.Form.{Read}
 use Rattle.hs_types.specs.declared.graph.Graph.{Graph}

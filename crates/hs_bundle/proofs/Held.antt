@@ -1,5 +1,5 @@
 -- The values in a typed graph are integers of 64 bits, truth values and texts.
-use Rattle.std.proofs.Common.{ℕ, ◌≤◌, ◌≡◌, ◌^◌, ℤ, pos, negsuc, Bool, true, false, nat_lt, Option, Some, None, refl, arith, rules}
+use Rattle.std.proofs.Common.{ℕ, ◌≤◌, ◌≡◌, ◌^◌, ℤ, pos, negsuc, true, false, nat_lt, Option, Some, None, arith, rules}
 use Rattle.std.proofs.lemmas.Bool.{false≢true}
 use Rattle.std.specs.List.{All}
 use Rattle.std.specs.Option.{option_map, unwrap_or}

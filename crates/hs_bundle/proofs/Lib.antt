@@ -6,3 +6,5 @@ mod MeantBack
 mod Counted
 mod NoFaults
 mod GraphBack
+mod Grouped
+mod Opened

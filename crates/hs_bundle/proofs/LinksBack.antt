@@ -1,9 +1,8 @@
 -- The edges of a written graph are read back.
-use Rattle.std.proofs.Common.{ℕ, suc, ◌+◌, ◌≡◌, ◌++◌, List, [], ◌∷◌, Bool, true, false, cond, map, length, eqb, is_some, Option, Some, None, IsSomeAnd, refl, ap, sym, ◌∙◌, subst}
-use Rattle.std.proofs.lemmas.Bool.{eqb-true, false≢true}
-use Rattle.std.proofs.lemmas.List.Elements.{All-nil, All-cons, All-head, All-tail, All-filter, All-weaker}
+use Rattle.std.proofs.Common.{ℕ, ◌+◌, ◌≡◌, ◌++◌, List, [], ◌∷◌, Bool, true, false, cond, map, eqb, is_some, Option, Some, None, IsSomeAnd, refl, ap, sym, ◌∙◌, subst}
+use Rattle.std.proofs.lemmas.List.Elements.{All-head, All-tail, All-filter, All-weaker}
 use Rattle.std.proofs.lemmas.Option.{none-some, same_Some}
-use Rattle.std.specs.List.{All, filter, find, flat_map, position, position_or_len}
+use Rattle.std.specs.List.{All, find, position, position_or_len}
 use Rattle.std.specs.Option.{option_map, unwrap_or}
 use Rattle.hs_types.specs.declared.graph.Edge.{Edge}
 use Rattle.hs_types.specs.declared.graph.Graph.{Graph}
@@ -13,13 +12,13 @@ use Rattle.hs_types.specs.declared.meta.Metamodel.{Metamodel}
 use Rattle.hs_types.specs.Lists.{Differ, has, same_text}
 use Rattle.hs_types.specs.Metamodel.{Conforms, IsConcrete, IsMeta, class_at, features_of, target_of}
 use Rattle.hs_types.specs.TypedGraph.{CanJoin, IsOf, IsTyped, object_at}
-use Rattle.hs_laws.proofs.Lists.{All-by_has, All-find, All-of_map, flat_map-same, map-same}
+use Rattle.hs_laws.proofs.Lists.{All-by_has, All-find, All-of_map, flat_map-same}
 use Rattle.hs_graph.specs.declared.edges.Link.{Link}
-use Rattle.hs_graph.specs.declared.raw.RawObject.{RawObject}
 use Rattle.hs_graph.specs.Links as links
 use Rattle.hs_graph.specs.Lookups.{class_named, class_of, classes_of, object_names, place_of}
-use Rattle.hs_model.specs.Renumbered.{edges_by, link_between, links_at, links_from, place_in}
-use Rattle.hs_model.specs.Written.{class_name, edges_from, name_in, targets_of}
+use Rattle.hs_graph.proofs.Lists.{length-mapped}
+use Rattle.hs_model.specs.Renumbered.{edges_by, link_between, links_at, links_from}
+use Rattle.hs_model.specs.Written.{class_name, edges_from, name_in}
 use Rattle.hs_model.proofs.FormBack.{is_used, object_written, refs_written, targets_at}
 use Rattle.hs_model.proofs.NamesBack.{class_back, same_false, same_true}
 use Rattle.hs_bundle.proofs.RefsBack.{targets_back, used_reference}
@@ -46,10 +45,6 @@ classes_written m g (o ∷ os) is all =
     rw (class_written m g o is (All-head (λ (o : Object). IsConcrete m o.class) o os all)) (ap (λ (ns : List ℕ). o.class ∷ ns) (classes_written m g os is (All-tail (λ (o : Object). IsConcrete m o.class) o os all)))
 
 -- ---- places
-
-length-mapped : {A B : Type 0} (f : A → B) (xs : List A) → length (map f xs) ≡ length xs
-length-mapped f [] = refl
-length-mapped f (x ∷ xs) = ap (λ n. suc n) (length-mapped f xs)
 
 first_back : (os : List Object) (t : ℕ) (o : Object) → Differ (map (λ (o : Object). o.name) os) → find (λ (o : Object). eqb o.number t) os ≡ Some o →
     position_or_len (same_text o.name) (map (λ (o : Object). o.name) os) ≡ position_or_len (λ (o : Object). eqb o.number t) os

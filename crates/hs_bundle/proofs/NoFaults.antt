@@ -1,11 +1,10 @@
 -- The written objects of a typed graph that can be written have no fault.
-use Rattle.std.proofs.Common.{ℕ, zero, suc, ◌+◌, ◌<◌, ◌≤◌, ◌≡◌, ◌++◌, List, [], ◌∷◌, Bool, true, false, not, cond, map, length, take, eqb, ltb, nat_lt, is_some, Option, Some, None, IsSomeAnd, slice_get, refl, ap, sym, ◌∙◌, subst, arith, rules, add-zero, zero-add}
+use Rattle.std.proofs.Common.{ℕ, suc, ◌+◌, ◌<◌, ◌≤◌, ◌≡◌, ◌++◌, List, [], ◌∷◌, Bool, true, false, not, cond, map, length, take, eqb, ltb, nat_lt, is_some, Option, Some, None, IsSomeAnd, slice_get, refl, ap, sym, ◌∙◌, subst, arith, rules, add-zero, zero-add}
 use Rattle.std.proofs.lemmas.Bool.{eqb-true, false≢true}
 use Rattle.std.proofs.lemmas.List.Elements.{All-filter}
-use Rattle.std.proofs.lemmas.Option.{none-some, same_Some, slice_get-map, slice_get_within}
+use Rattle.std.proofs.lemmas.Option.{none-some, slice_get-map, slice_get_within}
 use Rattle.std.specs.List.{All, filter, find, position, position_or_len}
 use Rattle.std.specs.Option.{option_and_then, option_map, option_map_or, unwrap_or}
-use Rattle.hs_expr.specs.declared.value.Value.{Value}
 use Rattle.hs_expr.specs.Verdict.{each, each_from, fault_if}
 use Rattle.hs_types.specs.declared.graph.Edge.{Edge}
 use Rattle.hs_types.specs.declared.graph.Graph.{Graph}
@@ -14,20 +13,17 @@ use Rattle.hs_types.specs.declared.graph.Slot.{Slot}
 use Rattle.hs_types.specs.declared.meta.Class.{Class}
 use Rattle.hs_types.specs.declared.meta.Feature.{Feature}
 use Rattle.hs_types.specs.declared.meta.Metamodel.{Metamodel}
-use Rattle.hs_types.specs.Lists.{Differ, has, same_text}
+use Rattle.hs_types.specs.Lists.{has, same_text}
 use Rattle.hs_types.specs.Metamodel.{Conforms, IsConcrete, IsMeta, attributes_of, class_at, feature_at, features_of, fits, is_attribute, target_of, type_of, type_of_kind}
 use Rattle.hs_types.specs.TypedGraph.{CanJoin, IsOf, IsTyped, object_at}
-use Rattle.hs_laws.proofs.Lists.{All-both, All-by_has, All-kept, All-of_map}
+use Rattle.hs_laws.proofs.Lists.{All-by_has, All-kept, All-of_map}
 use Rattle.hs_graph.specs.declared.edges.Link.{Link}
-use Rattle.hs_graph.specs.declared.fault.GraphFault.{GraphFault}
 use Rattle.hs_graph.specs.declared.fault.GraphPlace.{GraphPlace}
 use Rattle.hs_graph.specs.declared.fault.GraphPlace.TheVariants as place
-use Rattle.hs_graph.specs.declared.raw.RawAttr.{RawAttr}
 use Rattle.hs_graph.specs.declared.raw.RawObject.{RawObject}
-use Rattle.hs_graph.specs.declared.raw.RawRef.{RawRef}
 use Rattle.hs_graph.specs.declared.raw.RawValue.TheVariants.{Given}
 use Rattle.hs_graph.specs.Faults.{attr_faults, attr_faults_at, class_faults, class_faults_at, faults, is_abstract, is_short, kind_faults, leads_to, many_edges, many_objects, name_faults, name_faults_at, reach_faults, ref_faults, ref_faults_at, takes, target_faults_at, targets_faults, value_faults}
-use Rattle.hs_graph.specs.Lookups.{attribute_named, class_named, class_of, classes_of, is_reference, object_names, place_of, reference_named}
+use Rattle.hs_graph.specs.Lookups.{attribute_named, class_of, classes_of, is_reference, object_names, place_of}
 use Rattle.hs_graph.specs.Names.{is_object_name}
 use Rattle.hs_graph.proofs.Conformance.{conforms_from}
 use Rattle.hs_graph.proofs.Places.{is_some-position}
@@ -165,7 +161,7 @@ valued m g is typed writable = none_mapped (λ i object. each (attr_faults_at m 
 
 -- ---- targets
 
-place_found : {A : Type 0} (p : A → Bool) (xs : List A) (x : A) → find p xs ≡ Some x → (slice_get xs (position_or_len p xs) ≡ Some x) × (position p xs ≡ Some (position_or_len p xs))
+pub place_found : {A : Type 0} (p : A → Bool) (xs : List A) (x : A) → find p xs ≡ Some x → (slice_get xs (position_or_len p xs) ≡ Some x) × (position p xs ≡ Some (position_or_len p xs))
 place_found {A} p xs x e = let at = stands xs e in (at, rw (below_true (position_or_len p xs) (length xs) (slice_get_within xs (position_or_len p xs) x at)) refl)
   where
     below_true : (i n : ℕ) → i < n → ltb i n ≡ true

@@ -8,7 +8,7 @@ use Rattle.std.specs.Option.{option_and_then, option_map, option_map_or, unwrap_
 use Rattle.hs_types.specs.declared.graph.Edge.{Edge}
 use Rattle.hs_types.specs.declared.meta.Feature.{Feature}
 use Rattle.hs_types.specs.declared.meta.Metamodel.{Metamodel}
-use Rattle.hs_types.specs.Lists.{Differ, has, same_text}
+use Rattle.hs_types.specs.Lists.{has, same_text}
 use Rattle.hs_types.specs.Metamodel.{IsMeta, feature_at, features_of, target_of, target_of_kind}
 use Rattle.hs_laws.proofs.Lists.{All-by_has, find-map}
 use Rattle.hs_graph.specs.declared.raw.RawRef.{RawRef}
