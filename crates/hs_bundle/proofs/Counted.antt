@@ -10,6 +10,7 @@ use Rattle.hs_types.specs.declared.meta.Metamodel.{Metamodel}
 use Rattle.hs_types.specs.Lists.{Differ, Rise, has}
 use Rattle.hs_types.specs.Metamodel.{IsMeta, features_of}
 use Rattle.hs_types.specs.TypedGraph.{IsTyped}
+use Rattle.hs_graph.proofs.Lists.{length-mapped}
 use Rattle.hs_laws.proofs.Lists.{Differ-apart, below_differs}
 use Rattle.hs_model.specs.Renumbered.{link_between, links_at, links_from}
 use Rattle.hs_model.specs.Written.{edges_from}
@@ -35,10 +36,6 @@ fewer {A} p (x ∷ xs) = go (p x) (fewer p xs)
     go true rest = let e : suc (length (filter p xs)) ≤ suc (length xs) = omega (arith, rest) in e
     go false rest = let e : length (filter p xs) ≤ suc (length xs) = omega (arith, rest) in e
 
-length-mapped : {A B : Type 0} (f : A → B) (xs : List A) → length (map f xs) ≡ length xs
-length-mapped f [] = refl
-length-mapped f (x ∷ xs) = ap (λ n. suc n) (length-mapped f xs)
-
 none_again : {A : Type 0} (key : A → ℕ) (n : ℕ) (ns : List ℕ) → Differ (n ∷ ns) → (x : A) → eqb (key x) n ≡ true → has ns (key x) ≡ false
 none_again key n ns d x e = ap (has ns) (eqb-true (key x) n e) ∙ Differ-apart n ns d.0
 
@@ -56,7 +53,7 @@ by_key key h xs (n ∷ ns) d =
     ∙ ap (λ k. length (filter (λ x. eqb (key x) n) xs) + k) (by_key key h xs ns d.1)
     ∙ split (λ x. eqb (key x) n) (λ x. has ns (key x)) xs (none_again key n ns d)
 
-differ-unmapped : {A : Type 0} (h : ℕ → A) (ns : List ℕ) → Differ (map h ns) → Differ ns
+pub differ-unmapped : {A : Type 0} (h : ℕ → A) (ns : List ℕ) → Differ (map h ns) → Differ ns
 differ-unmapped h [] d = tt
 differ-unmapped {A} h (n ∷ ns) d = (apart ns d.0, differ-unmapped h ns d.1)
   where
@@ -65,11 +62,11 @@ differ-unmapped {A} h (n ∷ ns) d = (apart ns d.0, differ-unmapped h ns d.1)
     apart (k ∷ ks) a = All-cons (λ k. n ≡ k → ⊥) k ks (λ e. All-head (λ (y : A). h n ≡ y → ⊥) (h k) (map h ks) a (ap h e)) (apart ks (All-tail (λ (y : A). h n ≡ y → ⊥) (h k) (map h ks) a))
 
 -- Numbers that rise differ.
-rise_above : (low : ℕ) (ns : List ℕ) (high : ℕ) → Rise low ns high → All (λ k. low ≤ k) ns
+pub rise_above : (low : ℕ) (ns : List ℕ) (high : ℕ) → Rise low ns high → All (λ k. low ≤ k) ns
 rise_above low [] high r = All-nil (λ k. low ≤ k)
 rise_above low (n ∷ ns) high r = All-cons (λ k. low ≤ k) n ns r.0 (All-weaker (λ k. n + 1 ≤ k) (λ k. low ≤ k) (λ k h. omega (arith, h, r.0)) ns (rise_above (n + 1) ns high r.1))
 
-rise_differs : (low : ℕ) (ns : List ℕ) (high : ℕ) → Rise low ns high → Differ ns
+pub rise_differs : (low : ℕ) (ns : List ℕ) (high : ℕ) → Rise low ns high → Differ ns
 rise_differs low [] high r = tt
 rise_differs low (n ∷ ns) high r = (All-weaker (λ k. n + 1 ≤ k) (λ k. n ≡ k → ⊥) (λ k h. below_differs n k (omega (arith, h))) ns (rise_above (n + 1) ns high r.1), rise_differs (n + 1) ns high r.1)
 

@@ -9,3 +9,5 @@ mod GraphBack
 pub mod Sound
 pub mod Floats
 pub mod Lines
+mod Grouped
+mod Opened

@@ -1,5 +1,5 @@
 -- The edges of a written graph are read back.
-use Rattle.std.proofs.Common.{ℕ, suc, ◌+◌, ◌≡◌, ◌++◌, List, [], ◌∷◌, Bool, true, false, cond, map, length, eqb, is_some, Option, Some, None, IsSomeAnd, refl, ap, sym, ◌∙◌, subst}
+use Rattle.std.proofs.Common.{ℕ, ◌+◌, ◌≡◌, ◌++◌, List, [], ◌∷◌, Bool, true, false, cond, map, eqb, is_some, Option, Some, None, IsSomeAnd, refl, ap, sym, ◌∙◌, subst}
 use Rattle.std.proofs.lemmas.List.Elements.{All-head, All-tail, All-filter, All-weaker}
 use Rattle.std.proofs.lemmas.Option.{none-some, same_Some}
 use Rattle.std.specs.List.{All, find, position, position_or_len}
@@ -16,6 +16,7 @@ use Rattle.hs_laws.proofs.Lists.{All-by_has, All-find, All-of_map, flat_map-same
 use Rattle.hs_graph.specs.declared.edges.Link.{Link}
 use Rattle.hs_graph.specs.Links as links
 use Rattle.hs_graph.specs.Lookups.{class_named, class_of, classes_of, object_names, place_of}
+use Rattle.hs_graph.proofs.Lists.{length-mapped}
 use Rattle.hs_model.specs.Renumbered.{edges_by, link_between, links_at, links_from}
 use Rattle.hs_model.specs.Written.{class_name, edges_from, name_in}
 use Rattle.hs_model.proofs.FormBack.{is_used, object_written, refs_written, targets_at}
@@ -44,10 +45,6 @@ classes_written m g (o ∷ os) is all =
     rw (class_written m g o is (All-head (λ (o : Object). IsConcrete m o.class) o os all)) (ap (λ (ns : List ℕ). o.class ∷ ns) (classes_written m g os is (All-tail (λ (o : Object). IsConcrete m o.class) o os all)))
 
 -- ---- places
-
-length-mapped : {A B : Type 0} (f : A → B) (xs : List A) → length (map f xs) ≡ length xs
-length-mapped f [] = refl
-length-mapped f (x ∷ xs) = ap (λ n. suc n) (length-mapped f xs)
 
 first_back : (os : List Object) (t : ℕ) (o : Object) → Differ (map (λ (o : Object). o.name) os) → find (λ (o : Object). eqb o.number t) os ≡ Some o →
     position_or_len (same_text o.name) (map (λ (o : Object). o.name) os) ≡ position_or_len (λ (o : Object). eqb o.number t) os

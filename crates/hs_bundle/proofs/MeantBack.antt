@@ -1,5 +1,5 @@
 -- What written objects mean is the graph that they were written from, numbered by places.
-use Rattle.std.proofs.Common.{ℕ, suc, ◌+◌, ◌≡◌, List, [], ◌∷◌, length, map, max, refl, ap, ◌∙◌}
+use Rattle.std.proofs.Common.{ℕ, ◌+◌, ◌≡◌, List, [], ◌∷◌, length, map, max, refl, ap, ◌∙◌}
 use Rattle.std.proofs.lemmas.List.Elements.{All-head, All-tail}
 use Rattle.std.specs.List.{All}
 use Rattle.hs_types.specs.declared.graph.Graph.{Graph}
@@ -13,6 +13,7 @@ use Rattle.hs_graph.specs.Links.{all_links}
 use Rattle.hs_graph.specs.Meaning as meaning
 use Rattle.hs_graph.specs.Meaning.{meant}
 use Rattle.hs_graph.specs.Names.{next_after}
+use Rattle.hs_graph.proofs.Lists.{length-mapped}
 use Rattle.hs_model.specs.Renumbered.{links_from, next_name, numbered, renumbered}
 use Rattle.hs_model.proofs.FormBack.{attrs_written, object_written}
 use Rattle.hs_model.proofs.SlotsBack.{keys_differ, slots_back}
@@ -37,8 +38,7 @@ next_meant m g [] = refl
 next_meant m g (o ∷ os) = ap (max (next_after o.name)) (next_meant m g os)
 
 pub length_written : (m : Metamodel) (g : Graph) (os : List Object) → length (map (object_written m g) os) ≡ length os
-length_written m g [] = refl
-length_written m g (o ∷ os) = ap (λ n. suc n) (length_written m g os)
+length_written m g os = length-mapped (object_written m g) os
 
 abbrev graph : List Object → List Link → ℕ → ℕ → Graph
 graph objects links next_object next_name = record { objects = objects; edges = meaning.edges_from 0 links; next_object = next_object; next_edge = length links; next_name = next_name }

@@ -161,7 +161,7 @@ valued m g is typed writable = none_mapped (λ i object. each (attr_faults_at m 
 
 -- ---- targets
 
-place_found : {A : Type 0} (p : A → Bool) (xs : List A) (x : A) → find p xs ≡ Some x → (slice_get xs (position_or_len p xs) ≡ Some x) × (position p xs ≡ Some (position_or_len p xs))
+pub place_found : {A : Type 0} (p : A → Bool) (xs : List A) (x : A) → find p xs ≡ Some x → (slice_get xs (position_or_len p xs) ≡ Some x) × (position p xs ≡ Some (position_or_len p xs))
 place_found {A} p xs x e = let at = stands xs e in (at, rw (below_true (position_or_len p xs) (length xs) (slice_get_within xs (position_or_len p xs) x at)) refl)
   where
     below_true : (i n : ℕ) → i < n → ltb i n ≡ true
