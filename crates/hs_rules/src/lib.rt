@@ -9,6 +9,7 @@ mod arguments;
 
 mod callees;
 mod calls;
+mod checking;
 mod cycles;
 mod edges;
 mod examples;
@@ -32,6 +33,7 @@ mod units;
 
 mod written;
 
+pub use checking::{check, check_units};
 pub use examples::{edges_tried, names_tried, sets_tried};
 pub use fault::{RuleFault, RuleFaultKind};
 pub use nodes::{DeclaredNode, Home};
