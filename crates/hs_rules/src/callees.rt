@@ -84,10 +84,7 @@ fn known_rules(alloc: Global, definitions: &[Definition]) -> Result<Known<'_, Ru
 }
 
 /// Adds the definition, if it is a rule, unless there is one of its name.
-fn keep_rule<'a>(
-    known: &mut Known<'a, Rule>,
-    definition: &'a Definition,
-) -> Result<(), AllocError>
+fn keep_rule<'a>(known: &mut Known<'a, Rule>, definition: &'a Definition) -> Result<(), AllocError>
     ensures { (before : List WrittenRule) → Knows (λ other. other.name) known.old before
         → OnOk result (Knows (λ other. other.name) known.new (before ++ rule_of definition.now)) }
 {
@@ -108,10 +105,7 @@ fn known_units(alloc: Global, definitions: &[Definition]) -> Result<Known<'_, Un
 }
 
 /// Adds the definition, if it is a unit, unless there is one of its name.
-fn keep_unit<'a>(
-    known: &mut Known<'a, Unit>,
-    definition: &'a Definition,
-) -> Result<(), AllocError>
+fn keep_unit<'a>(known: &mut Known<'a, Unit>, definition: &'a Definition) -> Result<(), AllocError>
     ensures { (before : List WrittenUnit) → Knows (λ other. other.name) known.old before
         → OnOk result (Knows (λ other. other.name) known.new (before ++ spec.unit_of definition.now)) }
 {

@@ -48,10 +48,7 @@ pub fn cycles_right(
 
 /// The fault of the first unit that its row says to be below itself.
 #[tactic(auto, using(hs_expr::proofs::Verdicts::each_steps, crate::proofs::Failing::fails))]
-fn none_below_itself(
-    rows: &[List<bool>],
-    units: &[UnitRef<'_>],
-) -> Result<(), Failure<RuleFault>>
+fn none_below_itself(rows: &[List<bool>], units: &[UnitRef<'_>]) -> Result<(), Failure<RuleFault>>
     ensures { (called : _) → rows.now ≡ steps.rows called → length called ≡ length units.now
         → Gives result (verdict (each (spec.cycle_fault called) units.now)) }
 {
@@ -65,7 +62,10 @@ fn none_below_itself(
 }
 
 /// The units among the definitions.
-fn units_of<'a>(alloc: Global, definitions: &'a [Definition]) -> Result<List<UnitRef<'a>>, AllocError>
+fn units_of<'a>(
+    alloc: Global,
+    definitions: &'a [Definition],
+) -> Result<List<UnitRef<'a>>, AllocError>
     ensures { IfOk result (λ units. units ≡ spec.units_of definitions.now) }
 {
     let mut units = List::new(alloc);

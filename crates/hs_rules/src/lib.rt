@@ -6,7 +6,6 @@
 #![tactic(auto)]
 
 mod arguments;
-
 mod callees;
 mod calls;
 mod checking;
@@ -29,12 +28,13 @@ mod statements;
 #[cfg(test)]
 mod tests;
 mod third_pass;
+#[cfg(test)]
+mod unit_tests;
 mod units;
-
 mod written;
 
 pub use checking::{check, check_units};
-pub use examples::{edges_tried, names_tried, sets_tried};
+pub use examples::{calls_tried, cycles_tried, edges_tried, names_tried, sets_tried, units_tried};
 pub use fault::{RuleFault, RuleFaultKind};
 pub use nodes::{DeclaredNode, Home};
 pub use rules::check_rules;

@@ -9,7 +9,7 @@ ghost use Rattle.hs_rules.specs.Signed.{signed};
 ghost use Rattle.hs_rules.specs.UnitFaults as spec;
 
 use crate::arguments::{is_in, is_kind};
-use crate::known::{Known, Named, keep_first, find_named};
+use crate::known::{Known, Named, find_named, keep_first};
 use crate::name_map::{NameMap, ParamMap};
 use hs_expr::List;
 use hs_text::Param;
@@ -91,7 +91,9 @@ impl<'a> Signature<'a> {
 fn have_kinds(meta: &Meta, meant: &[MeantParam<'_>]) -> bool
     ensures { result ≡ list_all (λ param. spec.is_kind meta.now param.kind.text) meant.now }
 {
-    meant.iter().all(|meant| is_kind(meta, &meant.param.kind.text))
+    meant
+        .iter()
+        .all(|meant| is_kind(meta, &meant.param.kind.text))
 }
 
 fn needed<'a>(alloc: Global, meant: &[MeantParam<'a>]) -> Result<List<MeantParam<'a>>, AllocError>
