@@ -1,4 +1,4 @@
-//! The faults of rules, over a metamodel.
+//! The faults of rules and units, over a metamodel.
 //!
 //! A rule is checked pass by pass, and what is told is the first fault in the order of the list that
 //! `specs/Faults.antt` gives. The nodes of a rule and of its blocks are taken as one list
