@@ -1,9 +1,14 @@
 -- A small bank and parts of rules over it, to try the definitions on.
-use Rattle.std.specs.Prelude.{ℕ, pos, List, [], ◌∷◌, false, None, codes}
+use Rattle.std.specs.Prelude.{ℕ, pos, List, [], ◌∷◌, true, false, None, codes}
 use Rattle.hs_expr.specs.declared.Name.{Name}
 use Rattle.hs_expr.specs.declared.Piece.TheVariants as piece
 use Rattle.hs_expr.specs.declared.Span.{Span}
 use Rattle.hs_expr.specs.declared.Value.TheVariants as value
+use Rattle.hs_text.specs.declared.syntax.Atom.TheVariants as atom
+use Rattle.hs_text.specs.declared.syntax.Bind.{Bind}
+use Rattle.hs_text.specs.declared.syntax.Bind.TheVariants as bind
+use Rattle.hs_text.specs.declared.syntax.Body.TheVariants as body
+use Rattle.hs_text.specs.declared.syntax.Call.{Call}
 use Rattle.hs_text.specs.declared.syntax.Definition.{Definition}
 use Rattle.hs_text.specs.declared.syntax.Definition.TheVariants as definition
 use Rattle.hs_text.specs.declared.syntax.Direction.{Direction}
@@ -62,6 +67,27 @@ rule name params items = definition.Rule (record { name = word 0 name; params = 
 -- One fault, in this column.
 abbrev pub only : ℕ → RuleFaultKind → List RuleFault
 only column kind = record { in_unit = false; line = 1; column = column; kind = kind } ∷ []
+
+-- The unit of this name, in this column, that calls these one by one.
+abbrev pub unit : ℕ → List ℕ → List Param → List Call → Definition
+unit column name params calls = definition.Unit (record { name = word column name; params = params; body = body.Sequential calls })
+
+-- A call of this, in this column.
+abbrev pub call : ℕ → List ℕ → List Bind → Call
+call column callee binds = record { callee = word column callee; binds = binds }
+
+abbrev pub give : List ℕ → List ℕ → Bind
+give name value = bind.Give (word 0 name) (atom.Name (word 0 value))
+
+abbrev pub give_number : List ℕ → ℕ → Bind
+give_number name n = bind.Give (word 0 name) (atom.Int false (pos n) (place 0))
+
+abbrev pub take : List ℕ → List ℕ → Bind
+take name variable = bind.Take (word 0 name) (word 0 variable)
+
+-- One fault of a unit, in this column.
+abbrev pub only_unit : ℕ → RuleFaultKind → List RuleFault
+only_unit column kind = record { in_unit = true; line = 1; column = column; kind = kind } ∷ []
 
 -- What the third pass finds in a rule of these items, without parameters.
 abbrev pub third_of : List Item → List RuleFault

@@ -1,5 +1,5 @@
 -- All faults of units, in the order in which they are told: unit by unit, and behind them the cycles.
-use Rattle.std.specs.Prelude.{ℕ, List, [], ◌∷◌, ◌++◌, map, length, take, Bool, true, false, not, ◌&&◌, ◌||◌, nat_le, is_some, if◌then◌else◌, Option, Some, None}
+use Rattle.std.specs.Prelude.{ℕ, List, [], ◌∷◌, ◌++◌, map, length, take, Bool, false, not, ◌&&◌, ◌||◌, nat_le, is_some, if◌then◌else◌, Option, Some, None}
 use Rattle.std.specs.List.{filter, filter_map, flat_map, list_all, position}
 use Rattle.std.specs.Option.{option_map, option_map_or, option_or}
 use Rattle.hs_expr.specs.declared.Kind.{Kind}

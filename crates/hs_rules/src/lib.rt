@@ -1,4 +1,4 @@
-//! The faults of rules, over a metamodel.
+//! The faults of rules and units, over a metamodel.
 //!
 //! A rule is checked pass by pass, and what is told is the first fault in the order of the list that
 //! `specs/Faults.antt` gives. The nodes of a rule and of its blocks are taken as one list
@@ -8,6 +8,7 @@
 mod arguments;
 mod callees;
 mod calls;
+mod checking;
 mod cycles;
 mod edges;
 mod examples;
@@ -27,10 +28,13 @@ mod statements;
 #[cfg(test)]
 mod tests;
 mod third_pass;
+#[cfg(test)]
+mod unit_tests;
 mod units;
 mod written;
 
-pub use examples::{edges_tried, names_tried, sets_tried};
+pub use checking::{check, check_units};
+pub use examples::{calls_tried, cycles_tried, edges_tried, names_tried, sets_tried, units_tried};
 pub use fault::{RuleFault, RuleFaultKind};
 pub use nodes::{DeclaredNode, Home};
 pub use rules::check_rules;

@@ -62,7 +62,7 @@ fn features(alloc: Global) -> Result<List<Feature>, AllocError> {
 /// Client and Account, both below the abstract class Thing, and the abstract class Ghost, which none
 /// is below. A thing has a name, a client accounts, and an account a balance, whether it is open, an
 /// owner, and what it is about.
-fn bank(alloc: Global) -> Result<Option<Meta>, AllocError> {
+pub fn bank(alloc: Global) -> Result<Option<Meta>, AllocError> {
     let mut classes = List::new(alloc);
     classes.push(class(alloc, "Thing", true, &[], &[0])?)?;
     classes.push(class(alloc, "Client", false, &[0], &[0, 1])?)?;

@@ -1,0 +1,39 @@
+//! All rules and all units of a text.
+
+ghost use Rattle.std.specs.Prelude.{◌≡◌, ◌++◌};
+ghost use Rattle.hs_expr.specs.Steps.{Gives};
+ghost use Rattle.hs_expr.specs.Verdict.{verdict};
+ghost use Rattle.hs_rules.specs.UnitFaults as spec;
+
+use crate::callees::Callees;
+use crate::cycles::cycles_right;
+use crate::fault::RuleFault;
+use crate::rules::check_rules;
+use crate::units::each_right;
+use hs_expr::Failure;
+use hs_text::Syntax;
+use hs_types::Meta;
+use std::alloc::Global;
+
+/// Whether the rules and units of a text are free of faults over the metamodel, and else their first
+/// fault: all rules come before all units.
+#[tactic(auto, using(hs_expr::proofs::Verdicts::each_steps, crate::proofs::Failing::fails))]
+pub fn check(alloc: Global, meta: &Meta, syntax: &Syntax) -> Result<(), Failure<RuleFault>>
+    ensures { Gives result (verdict (spec.faults_of meta.now syntax.now.definitions)) }
+{
+    check_rules(alloc, meta, syntax)?;
+    check_units(alloc, meta, syntax)
+}
+
+/// Whether the units of a text are free of faults over the metamodel, and else their first fault: unit
+/// by unit in written order, and behind them the first unit that calls itself by a path. Rules are
+/// looked at for their names and parameters alone.
+#[tactic(auto, using(hs_expr::proofs::Verdicts::each_steps, crate::proofs::Failing::fails))]
+pub fn check_units(alloc: Global, meta: &Meta, syntax: &Syntax) -> Result<(), Failure<RuleFault>>
+    ensures { Gives result (verdict (spec.faults_of_units meta.now syntax.now.definitions)) }
+{
+    let definitions = syntax.definitions.as_slice();
+    let callees = Callees::new(alloc, definitions)?;
+    each_right(alloc, meta, &callees, definitions)?;
+    cycles_right(alloc, &callees, definitions)
+}
