@@ -11,7 +11,7 @@ use Rattle.hs_graph.specs.declared.raw.RawObject.{RawObject}
 use Rattle.hs_graph.specs.Answers.{unless}
 use Rattle.hs_graph.specs.Faults as wrong_graph
 use Rattle.hs_graph.specs.Meaning as graph
-use Rattle.hs_graph.proofs.Opening.{few-edges, few-objects, opening}
+use Rattle.hs_graph.proofs.Opening.{few-edges, few-objects, low-names, opening}
 use Rattle.hs_meta.specs.declared.fault.ModelFault.{ModelFault}
 use Rattle.hs_meta.specs.declared.fault.ModelFaultKind.{ModelFaultKind}
 use Rattle.hs_meta.specs.Faults as wrong_model
@@ -70,6 +70,7 @@ meant_sound m objects is small e = record {
   is_opening = opening m objects is e;
   few_objects = few-objects m objects e;
   few_edges = few-edges m objects e;
+  low_names = low-names m objects e;
 }
 
 graph_sound : (m : Metamodel) (d : Data) (g : Graph) → IsMeta m → IsSmallMeta m → graph_at m d ≡ Ok g → IsSound m g

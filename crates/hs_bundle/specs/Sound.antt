@@ -6,10 +6,11 @@ use Rattle.hs_types.specs.Limits.{IsSmallMeta}
 use Rattle.hs_types.specs.Metamodel.{IsMeta}
 use Rattle.hs_types.specs.TypedGraph.{IsOpening}
 
--- A metamodel that keeps the limits, and over it a graph from which a journal begins, of at most 200,000 objects and 400,000 edges.
+-- A metamodel that keeps the limits, and over it a graph from which a journal begins, of at most 200,000 objects and 400,000 edges; no object's name counts more than 3,000,000,000.
 pub record IsSound (m : Metamodel) (g : Graph) : Type 0 where
   pub is_meta : IsMeta m
   pub is_small : IsSmallMeta m
   pub is_opening : IsOpening m g
   pub few_objects : length g.objects ≤ 200000
   pub few_edges : length g.edges ≤ 400000
+  pub low_names : g.next_name ≤ 3000000001

@@ -1,9 +1,10 @@
 -- The graph that written objects mean, where they have no fault, is one from which a journal begins.
-use Rattle.std.proofs.Common.{◌≡◌, ◌≤◌, ◌<◌, ◌+◌, ◌++◌, ◌||◌, ◌⊎◌, inl, inr, ℕ, zero, suc, List, [], ◌∷◌, Bool, true, false, eqb, map, max, length, take, Option, Some, None, IsSomeAnd, slice_get, refl, ap, sym, ◌∙◌, subst, arith, append_assoc, length-append, add-zero, zero-add}
+use Rattle.std.proofs.Common.{◌≡◌, ◌≤◌, ◌<◌, ◌+◌, ◌++◌, ◌&&◌, ◌||◌, not, nat_le, nat_lt, ◌⊎◌, inl, inr, ℕ, zero, suc, List, [], ◌∷◌, Bool, true, false, eqb, map, max, length, take, Option, Some, None, IsSomeAnd, slice_get, refl, ap, sym, ◌∙◌, subst, arith, append_assoc, length-append, add-zero, zero-add}
 use Rattle.std.specs.List.{All, Any, find, flat_map, list_any, position_or_len, range_with_len}
 use Rattle.std.specs.Option.{option_map, option_map_or, unwrap_or}
 use Rattle.std.proofs.Math.Nat.{le_refl}
 use Rattle.std.proofs.lemmas.Bool.{both_ways, eq-eqb, eqb-true, ne_eqb, false≢true}
+use Rattle.std.proofs.lemmas.Bool.Decides.{nat_tests}
 use Rattle.std.proofs.lemmas.Int.{clamps}
 use Rattle.std.proofs.lemmas.List.Elements.{All-nil, All-cons, All-head, All-tail, All-append, All-weaker}
 use Rattle.std.proofs.lemmas.Option.{none-some, same_Some, slice_get-map}
@@ -23,7 +24,7 @@ use Rattle.hs_graph.specs.Faults.{both_conform, faults, leads_to, reach_faults, 
 use Rattle.hs_graph.specs.Links.{all_links, link_of, links_from, links_of, targets_at}
 use Rattle.hs_graph.specs.Lookups.{class_of, classes_of, is_reference, is_reference_named, object_names, place_of, reference_named}
 use Rattle.hs_graph.specs.Meaning.{edges_from, meant, next_name, object_of, objects_from}
-use Rattle.hs_graph.specs.Names.{hash_number, next_after}
+use Rattle.hs_graph.specs.Names.{hash_number, is_object_name, next_after}
 use Rattle.hs_graph.proofs.Clean.{Clean, clean, clean_at, no_test, not_false, some-not_none}
 use Rattle.hs_graph.proofs.Conformance.{conforms_to}
 use Rattle.hs_graph.proofs.Hash.{name-of_hash, number-of_hash}
@@ -408,3 +409,20 @@ few-objects m ws e = let few = (clean m ws e).few in omega (arith, few, length-o
 pub few-edges : (m : Metamodel) (ws : List RawObject) → faults m ws ≡ [] → length (meant m ws).edges ≤ 400000
 unfolding meant
 few-edges m ws e = let few = (clean m ws e).joined in omega (arith, few, length-edges 0 (all_links m ws))
+
+-- A number that isn't far is at most 3,000,000,000, and the next one hardly more.
+near-number : (rest : Bool) (number : Option ℕ) → rest && not (option_map_or (nat_lt 3000000000) number false) ≡ true → option_map_or (λ k. k + 1) number 0 ≤ 3000000001
+near-number rest None e = omega arith
+near-number false (Some k) e = absurd (false≢true e)
+near-number true (Some k) e = grind (arith, nat_tests)
+
+near-name : (name : List ℕ) → is_object_name name ≡ true → next_after name ≤ 3000000001
+near-name name e = near-number (nat_le 1 (length name) && nat_le (length name) 128) (hash_number name) e
+
+near-names : (ws : List RawObject) → ((k : ℕ) (w : RawObject) → slice_get ws k ≡ Some w → is_object_name w.name ≡ true) → next_name ws ≤ 3000000001
+near-names [] named = omega arith
+near-names (w ∷ ws) named = let first = near-name w.name (named 0 w refl) in let rest = near-names ws (λ k v e. named (suc k) v e) in omega (arith, clamps, first, rest)
+
+pub low-names : (m : Metamodel) (ws : List RawObject) → faults m ws ≡ [] → (meant m ws).next_name ≤ 3000000001
+unfolding meant
+low-names m ws e = near-names ws (clean m ws e).named

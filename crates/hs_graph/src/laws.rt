@@ -21,6 +21,7 @@ pub fn graphs_are_opening()
 pub fn graphs_are_small()
     ensures objects { (m : Metamodel) (objects : List RawObject) → faults m objects ≡ [] → length (meant m objects).objects ≤ 200000 }
     ensures edges { (m : Metamodel) (objects : List RawObject) → faults m objects ≡ [] → length (meant m objects).edges ≤ 400000 }
+    ensures names { (m : Metamodel) (objects : List RawObject) → faults m objects ≡ [] → (meant m objects).next_name ≤ 3000000001 }
 {}
 
 /// That an object of a typed graph contains itself, by counted steps, says exactly that it is inside
