@@ -1,29 +1,28 @@
-use Rattle.std.proofs.Common.{ℕ, ◌<◌, ◌≤◌, ◌≡◌, List, [], ◌∷◌, ◌++◌, Bool, true, false, ◌&&◌, ◌||◌, not, eqb, nat_lt, nat_le, cond, Option, Some, IsSomeAnd, length, map, slice_get, refl, ap, sym, subst, inl, inr, ◌∙◌, arith, rules}
+use Rattle.std.proofs.Common.{ℕ, ◌≤◌, ◌≡◌, List, [], ◌∷◌, ◌++◌, Bool, true, false, ◌&&◌, ◌||◌, not, eqb, nat_le, cond, Option, Some, length, map, slice_get, refl, ap, sym, subst, ◌∙◌, arith, rules}
 use Rattle.std.proofs.lemmas.List.{append-nil}
 use Rattle.std.proofs.lemmas.List.Elements.{All-nil, All-cons, All-head, All-tail}
-use Rattle.std.proofs.lemmas.Option.{cond_some, slice_get_cases}
-use Rattle.std.proofs.lemmas.Bool.{ltb-true}
-use Rattle.std.specs.List.{All, find, list_all, list_any, position, position_or_len, filter_map, cons_option}
+use Rattle.std.specs.List.{All, find, list_all, list_any, filter_map, cons_option}
 use Rattle.hs_expr.specs.Equality.{lists_exact, nat_exact}
 use Rattle.hs_text.specs.declared.syntax.Element.TheVariants as element
 use Rattle.hs_text.specs.declared.syntax.Item.{Item}
 use Rattle.hs_text.specs.declared.syntax.Item.TheVariants as item
 use Rattle.hs_text.specs.declared.syntax.Mark.TheVariants.{Preserve, Create, Delete}
 use Rattle.hs_text.specs.declared.syntax.Simple.TheVariants as simple
-use Rattle.hs_types.specs.declared.meta.Class.{Class}
 use Rattle.hs_types.specs.declared.meta.Metamodel.{Metamodel}
 use Rattle.hs_types.specs.declared.rule.PatternEdge.{PatternEdge}
 use Rattle.hs_types.specs.declared.rule.PatternNode.{PatternNode}
 use Rattle.hs_types.specs.declared.rule.Rule.{Rule}
 use Rattle.hs_types.specs.Limits.{IsSmallRule, parallel_to}
 use Rattle.hs_types.specs.Lists.{has, same_text, map_all, Differ}
-use Rattle.hs_types.specs.Metamodel.{Conforms, IsConcrete, features_of, target_of}
-use Rattle.hs_types.specs.Pattern.{is_drop}
+use Rattle.hs_types.specs.Metamodel.{class_at, features_of, supers_of, target_of}
+use Rattle.hs_types.specs.Pattern.{is_drop, is_make}
 use Rattle.hs_types.specs.RuleForm.{EdgeFits, IsRule, NodeFits, all_nodes, joins}
-use Rattle.hs_check.specs.Built.{AllConcrete, IsBuilt}
-use Rattle.hs_check.specs.Elements.{edge_of, names_differ, node_of}
-use Rattle.hs_check.specs.Names.{class_named, feature_named, is_named, node_named, number}
+use Rattle.hs_types.specs.Supertypes.{conforms}
+use Rattle.hs_check.specs.Built.{IsBuilt}
+use Rattle.hs_check.specs.Elements.{edge_of, has_objects, names_differ, node_of}
+use Rattle.hs_check.specs.Names.{class_named, feature_named, has_concrete, is_concrete, is_named, node_named}
 use Rattle.hs_check.specs.Written.{WrittenEdge, WrittenNode, is_built, mark_of, written_edge, written_edges, written_node, written_nodes}
+use Rattle.hs_check.proofs.Classes.{at_concrete, concrete_found, does_conform}
 use Rattle.hs_check.proofs.Meant.{Meant, rule_with}
 use Rattle.hs_check.proofs.Sizes.{few_edges, few_nodes, length-map_all}
 use Rattle.hs_check.proofs.Steps.{came, made-first, went, Some-inside}
@@ -85,15 +84,17 @@ edges-stay (i ∷ items) h =
 -- What is known of a node that a declared node means.
 pub record IsNode (m : Metamodel) (written : WrittenNode) (node : PatternNode) : Type 0 where
   pub class : class_named m written.class.text ≡ Some node.class
+  pub has : has_objects m node.mark node.class ≡ true
   pub mark : node.mark ≡ mark_of written.mark
 
 pub is-node : (m : Metamodel) (written : WrittenNode) (node : PatternNode) → node_of m written ≡ Some node → IsNode m written node
 unfolding node_of
 is-node m written node h =
     let a = came (class_named m written.class.text) _ node h in
+    let b = went (has_objects m (mark_of written.mark) a.of) _ node a.second in
     let made : PatternNode = record { name = written.name.text; class = a.of; mark = mark_of written.mark } in
-    let whole : made ≡ node = Some-inside a.second in
-    subst (λ (n : PatternNode). IsNode m written n) whole (record { class = a.first; mark = refl })
+    let whole : made ≡ node = Some-inside b.then in
+    subst (λ (n : PatternNode). IsNode m written n) whole (record { class = a.first; has = b.is; mark = refl })
 
 -- What is known of an edge that a declared edge means.
 pub record IsEdge (m : Metamodel) (nodes : List PatternNode) (written : WrittenEdge) (edge : PatternEdge) : Type 0 where
@@ -102,7 +103,9 @@ pub record IsEdge (m : Metamodel) (nodes : List PatternNode) (written : WrittenE
   pub source : slice_get nodes edge.source ≡ Some from
   pub target : slice_get nodes edge.target ≡ Some to
   pub reference : find (is_named m written.reference.text) (features_of m from.class) ≡ Some edge.reference
-  pub leads : target_of m edge.reference ≡ Some to.class
+  pub class : ℕ
+  pub leads : target_of m edge.reference ≡ Some class
+  pub conforms_to : conforms (supers_of m) to.class class ≡ true
   pub joins_from : joins edge.mark from.mark ≡ true
   pub joins_to : joins edge.mark to.mark ≡ true
   pub mark : edge.mark ≡ mark_of written.mark
@@ -116,10 +119,9 @@ is-edge m nodes written edge h =
     let to = came (slice_get nodes target.of) _ edge from.second in
     let reference = came (feature_named m from.of.class written.reference.text) _ edge to.second in
     let class = came (target_of m reference.of) _ edge reference.second in
-    let right = went (eqb to.of.class class.of) _ edge class.second in
+    let right = went (conforms (supers_of m) to.of.class class.of) _ edge class.second in
     let joined = went (joins (mark_of written.mark) from.of.mark && joins (mark_of written.mark) to.of.mark) _ edge right.then in
     let parts = both (joins (mark_of written.mark) from.of.mark) (joins (mark_of written.mark) to.of.mark) joined.is in
-    let same : to.of.class ≡ class.of = search rules in
     let made : PatternEdge = record { source = source.of; reference = reference.of; target = target.of; mark = mark_of written.mark } in
     let whole : made ≡ edge = Some-inside joined.then in
     subst (λ (e : PatternEdge). IsEdge m nodes written e) whole (record {
@@ -128,44 +130,24 @@ is-edge m nodes written edge h =
       source = from.first;
       target = to.first;
       reference = reference.first;
-      leads = class.first ∙ ap Some (sym same);
+      class = class.of;
+      leads = class.first;
+      conforms_to = right.is;
       joins_from = parts.0;
       joins_to = parts.1;
       mark = refl;
     })
 
--- A class that a name means is one of the metamodel.
-number-same : (place c : ℕ) → number place ≡ Some c → place ≡ c
-number-same place c h = search rules
-
-position-within : {A : Type 0} (p : A → Bool) (xs : List A) (i : ℕ) → position p xs ≡ Some i → i < length xs
-position-within p xs i h =
-    let parts = cond_some (nat_lt (position_or_len p xs) (length xs)) (position_or_len p xs) i h in
-    let under : position_or_len p xs < length xs = ltb-true (position_or_len p xs) (length xs) parts.0 in
-    subst (λ (n : ℕ). n < length xs) parts.1 under
-
-class-stands : (m : Metamodel) (name : List ℕ) (c : ℕ) → class_named m name ≡ Some c → c < length m.classes
-class-stands m name c h =
-    let a = came (position (λ (class : Class). same_text class.name name) m.classes) number c h in
-    let there : a.of < length m.classes = position-within (λ (class : Class). same_text class.name name) m.classes a.of a.first in
-    let same : a.of ≡ c = number-same a.of c a.second in
-    omega arith
-
--- What holds of each item holds of the one at a place.
-All-at : {A : Type 0} (P : A → Type 0) (xs : List A) (i : ℕ) → All P xs → i < length xs → IsSomeAnd (slice_get xs i) P
-All-at P xs i a h =
-    elim (slice_get_cases xs i).1 [
-      | inl there ↦ rw there.2 (subst P there.3 (a i there.0 there.1))
-      | inr past ↦ absurd (omega arith)
-    ]
-
--- Where all classes are concrete, a declared node is one that objects can have.
-node-fits : (m : Metamodel) → AllConcrete m → (written : WrittenNode) (node : PatternNode) → node_of m written ≡ Some node → NodeFits m node
-node-fits m concrete written node h =
+-- A declared node is one that objects can have, and a made one one that they can be made of.
+node-fits : (m : Metamodel) (written : WrittenNode) (node : PatternNode) → node_of m written ≡ Some node → NodeFits m node
+node-fits m written node h =
     let is = is-node m written node h in
-    let there = class-stands m written.class.text node.class is.class in
-    let one : IsConcrete m node.class = All-at (λ (class : Class). class.is_abstract ≡ false) m.classes node.class concrete there in
-    ((node.class, one, Conforms.itself node.class, Conforms.itself node.class), λ _. one)
+    let parts = both (has_concrete m node.class) (not (is_make node.mark) || is_concrete m node.class) is.has in
+    (concrete_found m node.class parts.0, λ made. at_concrete (class_at m node.class) (other (is_make node.mark) (is_concrete m node.class) made parts.1))
+  where
+    other : (a b : Bool) → a ≡ true → (not a || b) ≡ true → b ≡ true
+    other true b k e = e
+    other false b k e = absurd (cc)
 
 or-first : (a b : Bool) → a ≡ true → (a || b) ≡ true
 or-first true b h = refl
@@ -190,7 +172,7 @@ edge-fits : (m : Metamodel) (nodes : List PatternNode) (written : WrittenEdge) (
 edge-fits m nodes written edge h =
     let is = is-edge m nodes written edge h in (
       rw is.source (is.joins_from, found-has (is_named m written.reference.text) (features_of m is.from.class) edge.reference is.reference),
-      rw is.leads (rw is.target (is.joins_to, Conforms.itself is.to.class)),
+      rw is.leads (rw is.target (is.joins_to, does_conform m is.to.class is.class is.conforms_to)),
     )
 
 -- Names that differ by the test differ.
@@ -267,14 +249,14 @@ small m rule is = subst (λ (r : Rule). IsSmallRule r) (sym is.whole) (record {
 nodes-alone : (name : List ℕ) (nodes : List PatternNode) (edges : List PatternEdge) → all_nodes (rule_with name nodes edges) ≡ nodes
 nodes-alone name nodes edges = append-nil ((nodes ++ []) ++ []) ∙ append-nil (nodes ++ []) ∙ append-nil nodes
 
--- Over a metamodel of concrete classes it is a rule.
-pub formed : (m : Metamodel) (rule : Rule) → AllConcrete m → Meant m rule → IsRule m rule
-formed m rule concrete is = subst (λ (r : Rule). IsRule m r) (sym is.whole) (record {
+-- Over its metamodel it is a rule.
+pub formed : (m : Metamodel) (rule : Rule) → Meant m rule → IsRule m rule
+formed m rule is = subst (λ (r : Rule). IsRule m r) (sym is.whole) (record {
   params_differ = tt;
   params_fit = All-nil _;
   names_differ = subst (λ (nodes : List PatternNode). Differ (map (λ node. node.name) nodes)) (sym (nodes-alone is.written.name.text is.nodes is.edges)) (names-apart is.nodes is.differ);
   kernel = record {
-    nodes_fit = All-map_all (λ (w : WrittenNode). Unit {0}) (NodeFits m) (node_of m) (written_nodes is.written.items) is.nodes (λ w node none made. node-fits m concrete w node made) (λ k d h. tt) is.nodes_made;
+    nodes_fit = All-map_all (λ (w : WrittenNode). Unit {0}) (NodeFits m) (node_of m) (written_nodes is.written.items) is.nodes (λ w node none made. node-fits m w node made) (λ k d h. tt) is.nodes_made;
     edges_fit = All-map_all (λ (w : WrittenEdge). Unit {0}) (λ (edge : PatternEdge). EdgeFits m (joins edge.mark) is.nodes edge) (edge_of m is.nodes) (written_edges is.written.items) is.edges (λ w edge none made. edge-fits m is.nodes w edge made) (λ k d h. tt) is.edges_made;
     wheres_fit = All-nil _;
     sets_fit = All-nil _;

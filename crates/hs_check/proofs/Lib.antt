@@ -1,4 +1,5 @@
 pub mod Collected
+pub mod Classes
 pub mod Sizes
 pub mod Steps
 pub mod Texts

@@ -1,5 +1,5 @@
 -- A small bank and rules over it, to try the definitions on.
-use Rattle.std.specs.Prelude.{ℕ, pos, List, [], ◌∷◌, false, None, codes}
+use Rattle.std.specs.Prelude.{ℕ, pos, List, [], ◌∷◌, true, false, None, codes}
 use Rattle.hs_expr.specs.declared.Name.{Name}
 use Rattle.hs_expr.specs.declared.value.Value.TheVariants as value
 use Rattle.hs_text.specs.declared.syntax.Element.TheVariants as element
@@ -15,12 +15,15 @@ use Rattle.hs_types.specs.declared.rule.PatternEdge.{PatternEdge}
 use Rattle.hs_types.specs.declared.rule.PatternNode.{PatternNode}
 use Rattle.hs_types.specs.declared.rule.Rule.{Rule}
 
--- Client is class 0, Account class 1; accounts is feature 0, balance 1, owner 2.
+-- Client is class 0, Account class 1, and Savings, which is an account, class 2. Party, which each client is, and Fee are abstract: classes 3 and 4. accounts is feature 0, balance 1, owner 2.
 abbrev pub bank : Metamodel
 bank = record {
   format = 1;
-  classes = record { name = codes "Client"; is_abstract = false; supers = []; features = 0 ∷ [] }
+  classes = record { name = codes "Client"; is_abstract = false; supers = 3 ∷ []; features = 0 ∷ [] }
       ∷ record { name = codes "Account"; is_abstract = false; supers = []; features = 1 ∷ 2 ∷ [] }
+      ∷ record { name = codes "Savings"; is_abstract = false; supers = 1 ∷ []; features = 1 ∷ 2 ∷ [] }
+      ∷ record { name = codes "Party"; is_abstract = true; supers = []; features = [] }
+      ∷ record { name = codes "Fee"; is_abstract = true; supers = []; features = [] }
       ∷ [];
   features = record { owner = 0; name = codes "accounts"; kind = Reference 1 false 0 None }
       ∷ record { owner = 1; name = codes "balance"; kind = Attribute EInt (value.Int (pos 0)) }
@@ -38,12 +41,18 @@ node mark name class = item.Simple (simple.Marked mark (element.Node (named name
 abbrev pub edge : WrittenMark → List ℕ → List ℕ → List ℕ → Item
 edge mark source target reference = item.Simple (simple.Marked mark (element.Edge (named source) (named target) (named reference)))
 
--- A client c, an account a, and c's account a.
+-- A client or a party c, an account or savings a, and c's account a.
 abbrev pub client : WrittenMark → Item
 client mark = node mark (codes "c") (codes "Client")
 
 abbrev pub account : WrittenMark → Item
 account mark = node mark (codes "a") (codes "Account")
+
+abbrev pub savings : WrittenMark → Item
+savings mark = node mark (codes "a") (codes "Savings")
+
+abbrev pub party : WrittenMark → Item
+party mark = node mark (codes "c") (codes "Party")
 
 abbrev pub owned : WrittenMark → Item
 owned mark = edge mark (codes "c") (codes "a") (codes "accounts")

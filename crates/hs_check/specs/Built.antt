@@ -1,7 +1,6 @@
 -- What the rules that are built today have in common.
 use Rattle.std.specs.Prelude.{◌≤◌, ◌≡◌, [], length, false}
 use Rattle.std.specs.List.{All}
-use Rattle.hs_types.specs.declared.meta.Metamodel.{Metamodel}
 use Rattle.hs_types.specs.declared.rule.Rule.{Rule}
 use Rattle.hs_types.specs.Pattern.{is_drop}
 
@@ -18,7 +17,3 @@ pub record IsBuilt (rule : Rule) : Type 0 where
   pub no_edge_dropped : All (λ edge. is_drop edge.mark ≡ false) rule.shape.edges
   pub few_nodes : length rule.shape.nodes ≤ 12
   pub few_edges : length rule.shape.edges ≤ 16
-
--- Of each class there can be objects.
-abbrev pub AllConcrete : Metamodel → Type 0
-AllConcrete m = All (λ class. class.is_abstract ≡ false) m.classes

@@ -1,4 +1,4 @@
--- The rule that a text means over a metamodel. Built today: a text that is one rule without parameters, whose items preserve and create nodes and edges.
+-- The rule that a text means over any metamodel. Built today: a text that is one rule without parameters, whose items preserve and create nodes and edges.
 use Rattle.std.specs.Prelude.{ℕ, ◌≡◌, List, [], Option, Some}
 use Rattle.std.specs.Str.{chars}
 use Rattle.hs_text.specs.declared.syntax.Rule.{Rule as WrittenRule}

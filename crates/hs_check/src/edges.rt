@@ -6,9 +6,8 @@ ghost use Rattle.hs_check.specs.Answers.{Gives, Leaves, in_front};
 ghost use Rattle.hs_check.specs.Elements.{edge_of, few_parallel};
 ghost use Rattle.hs_check.specs.Written.{written_edges};
 
-use crate::RuleFault;
-use crate::fault::{demand, needed};
-use crate::names::{feature_named, node_named};
+use crate::names::{conforms, feature_named, node_named};
+use crate::obstacle::{Obstacle, demand, needed};
 use crate::written::mark_of;
 use hs_expr::{List, Name};
 use hs_text::{Element, Item, Mark as WrittenMark, Simple};
@@ -24,7 +23,7 @@ pub fn edges_of(
     meta: &Meta,
     nodes: &[PatternNode],
     items: &[Item],
-) -> Result<List<PatternEdge>, RuleFault>
+) -> Result<List<PatternEdge>, Obstacle>
     requires { length nodes.now ≤ 12 }
     ensures { Gives result (map_all (edge_of meta.now nodes.now) (written_edges items.now)) }
 {
@@ -41,7 +40,7 @@ fn add_edge(
     nodes: &[PatternNode],
     edges: &mut List<PatternEdge>,
     item: &Item,
-) -> Result<(), RuleFault>
+) -> Result<(), Obstacle>
     requires { length nodes.now ≤ 12 }
     ensures { Leaves result edges.new
         (in_front edges.old (map_all (edge_of meta.now nodes.now) (written_edges (item.now ∷ [])))) }
@@ -71,7 +70,7 @@ fn edge_of(
     source: &Name,
     target: &Name,
     reference: &Name,
-) -> Result<PatternEdge, RuleFault>
+) -> Result<PatternEdge, Obstacle>
     requires { length nodes.now ≤ 12 }
     ensures { Gives result (edge_of meta.now nodes.now
         (record { mark = mark; source = source.now; target = target.now; reference = reference.now })) }
@@ -83,7 +82,7 @@ fn edge_of(
     let to = needed(nodes.get(usize::from(target)))?;
     let reference = needed(feature_named(meta, from.class, &reference.text))?;
     let class = needed(meta.target_of(reference))?;
-    demand(to.class == class)?;
+    demand(conforms(meta, to.class, class))?;
     demand(joins(mark, from.mark) && joins(mark, to.mark))?;
     Ok(PatternEdge {
         source,

@@ -1,32 +1,38 @@
 //! What is true of each rule that a text means.
 
-ghost use Rattle.std.specs.Prelude.{◌≡◌, ℕ, List, [], ◌∷◌, codes};
+ghost use Rattle.std.specs.Prelude.{◌≡◌, ℕ, List, [], ◌∷◌, Some, None, codes};
+ghost use Rattle.std.specs.Str.{chars};
 ghost use Rattle.hs_text.specs.declared.syntax.Mark.TheVariants.{Preserve, Create, Delete};
+ghost use Rattle.hs_text.specs.declared.syntax.Syntax.{Syntax};
+ghost use Rattle.hs_text.specs.Parsing.{IsSyntaxOf};
 ghost use Rattle.hs_types.specs.declared.rule.Mark.TheVariants.{Keep, Make};
 ghost use Rattle.hs_types.specs.declared.meta.Metamodel.{Metamodel};
 ghost use Rattle.hs_types.specs.declared.rule.Rule.{Rule};
 ghost use Rattle.hs_types.specs.Limits.{IsSmallRule};
 ghost use Rattle.hs_types.specs.RuleForm.{IsRule};
-ghost use Rattle.hs_check.specs.Bank.{account, bank, client, edge, meant, node, owned, written};
-ghost use Rattle.hs_check.specs.Built.{AllConcrete, IsBuilt};
-ghost use Rattle.hs_check.specs.Meaning.{IsRuleOf, meaning_of};
+ghost use Rattle.hs_check.specs.Bank.{account, bank, client, edge, meant, node, owned, party, savings, written};
+ghost use Rattle.hs_check.specs.Built.{IsBuilt};
+ghost use Rattle.hs_check.specs.Meaning.{HasNoRule, IsRuleOf, meaning_of, rule_of};
 
-/// A metamodel and a text have one rule at most.
+/// A metamodel and a text have one rule at most, and none where the text's syntax means none.
 pub fn one_rule()
-    ensures { (m : Metamodel) (text : List ℕ) (rule other : Rule)
+    ensures one { (m : Metamodel) (text : List ℕ) (rule other : Rule)
         → IsRuleOf m text rule → IsRuleOf m text other → rule ≡ other }
+    ensures none { (m : Metamodel) (text : List ℕ) (syntax : Syntax)
+        → IsSyntaxOf (chars text) syntax → rule_of m syntax ≡ None → HasNoRule m text }
 {}
 
-/// The rule of a text keeps and makes nodes and edges, and has nothing else.
+/// The rule of a syntax keeps and makes nodes and edges, and has nothing else.
 pub fn rules_are_built()
-    ensures { (m : Metamodel) (text : List ℕ) (rule : Rule) → IsRuleOf m text rule → IsBuilt rule }
+    ensures { (m : Metamodel) (syntax : Syntax) (rule : Rule) → rule_of m syntax ≡ Some rule → IsBuilt rule }
 {}
 
-/// The rule of a text keeps the limits of rules, and over a metamodel of concrete classes it is one.
+/// The rule of a syntax keeps the limits of rules, and over each metamodel it is one.
 pub fn rules_are_formed()
-    ensures small { (m : Metamodel) (text : List ℕ) (rule : Rule) → IsRuleOf m text rule → IsSmallRule rule }
-    ensures formed { (m : Metamodel) (text : List ℕ) (rule : Rule)
-        → AllConcrete m → IsRuleOf m text rule → IsRule m rule }
+    ensures small { (m : Metamodel) (syntax : Syntax) (rule : Rule)
+        → rule_of m syntax ≡ Some rule → IsSmallRule rule }
+    ensures formed { (m : Metamodel) (syntax : Syntax) (rule : Rule)
+        → rule_of m syntax ≡ Some rule → IsRule m rule }
 {}
 
 /// Rules over a small bank: nothing; an edge before its nodes; and rules that mean nothing, since a
@@ -49,4 +55,25 @@ pub fn rules_tried()
         (client Preserve ∷ account Preserve ∷ edge Create (codes "a") (codes "c") (codes "balance") ∷ [])) ≡ None }
     ensures made_end { meaning_of bank (written (client Preserve ∷ account Create ∷ owned Preserve ∷ [])) ≡ None }
     ensures deleted { meaning_of bank (written (client Delete ∷ [])) ≡ None }
+{}
+
+/// Subclasses and abstract classes: an end of a subclass, and a reference that is inherited; an end of
+/// a superclass, which the reference doesn't lead to; and nodes of abstract classes, which mean
+/// something where they are kept and a concrete class conforms.
+pub fn classes_tried()
+    ensures subclass { meaning_of bank (written (client Preserve ∷ savings Create ∷ owned Create ∷ []))
+        ≡ Some (meant
+        (record { name = codes "c"; class = 0; mark = Keep } ∷ record { name = codes "a"; class = 2; mark = Make } ∷ [])
+        (record { source = 0; reference = 0; target = 1; mark = Make } ∷ [])) }
+    ensures inherited { meaning_of bank (written
+        (client Preserve ∷ savings Preserve ∷ edge Create (codes "a") (codes "c") (codes "owner") ∷ []))
+        ≡ Some (meant
+        (record { name = codes "c"; class = 0; mark = Keep } ∷ record { name = codes "a"; class = 2; mark = Keep } ∷ [])
+        (record { source = 1; reference = 2; target = 0; mark = Make } ∷ [])) }
+    ensures superclass { meaning_of bank (written
+        (party Preserve ∷ account Preserve ∷ edge Create (codes "a") (codes "c") (codes "owner") ∷ [])) ≡ None }
+    ensures kept_abstract { meaning_of bank (written (party Preserve ∷ []))
+        ≡ Some (meant (record { name = codes "c"; class = 3; mark = Keep } ∷ []) []) }
+    ensures made_abstract { meaning_of bank (written (party Create ∷ [])) ≡ None }
+    ensures no_concrete { meaning_of bank (written (node Preserve (codes "f") (codes "Fee") ∷ [])) ≡ None }
 {}

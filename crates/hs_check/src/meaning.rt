@@ -1,19 +1,30 @@
-ghost use Rattle.std.specs.Prelude.{◌≡◌};
+ghost use Rattle.std.specs.Prelude.{◌≡◌, IfOk};
 ghost use Rattle.hs_check.specs.Answers.{Gives};
 ghost use Rattle.hs_check.specs.Meaning.{meaning_of, rule_of};
 
-use crate::RuleFault;
 use crate::edges::{edges_of, few_parallel};
-use crate::fault::{demand, needed};
 use crate::nodes::{names_differ, nodes_of};
+use crate::obstacle::{Obstacle, demand, needed};
 use crate::written::{has_few, is_built_rule, only_rule};
 use hs_expr::List;
 use hs_text::{Rule as WrittenRule, Syntax};
 use hs_types::{Meta, Rule, Shape};
-use std::alloc::Global;
+use std::alloc::{AllocError, Global};
 
-/// The rule that a syntax means.
-pub fn rule_of(alloc: Global, meta: &Meta, syntax: &Syntax) -> Result<Rule, RuleFault>
+/// The rule that the syntax means over the metamodel; none where it means none of the form that is
+/// built: it is anything but one rule without parameters that preserves and creates nodes and edges,
+/// or its names, classes, ends or sizes aren't right. The one error is that memory was wanting.
+pub fn meant_rule(alloc: Global, meta: &Meta, syntax: &Syntax) -> Result<Option<Rule>, AllocError>
+    ensures { IfOk result (λ found. found ≡ rule_of meta.now syntax.now) }
+{
+    match rule_of(alloc, meta, syntax) {
+        Ok(rule) => Ok(Some(rule)),
+        Err(Obstacle::NotBuilt) => Ok(None),
+        Err(Obstacle::NoMemory) => Err(AllocError),
+    }
+}
+
+fn rule_of(alloc: Global, meta: &Meta, syntax: &Syntax) -> Result<Rule, Obstacle>
     ensures { Gives result (rule_of meta.now syntax.now) }
 {
     let written = needed(only_rule(syntax.definitions.as_slice()))?;
@@ -22,7 +33,7 @@ pub fn rule_of(alloc: Global, meta: &Meta, syntax: &Syntax) -> Result<Rule, Rule
 }
 
 #[tactic(auto, using(crate::proofs::Sizes::few_made), unfolding(crate::specs::Meaning::meaning_of))]
-fn meaning_of(alloc: Global, meta: &Meta, written: &WrittenRule) -> Result<Rule, RuleFault>
+fn meaning_of(alloc: Global, meta: &Meta, written: &WrittenRule) -> Result<Rule, Obstacle>
     ensures { Gives result (meaning_of meta.now written.now) }
 {
     demand(is_built_rule(written))?;

@@ -1,8 +1,9 @@
 ghost use Rattle.std.specs.Prelude.{◌≡◌, ◌≤◌, find, length};
 ghost use Rattle.std.specs.List.{position};
 ghost use Rattle.hs_types.specs.Lists.{same_text};
-ghost use Rattle.hs_types.specs.Metamodel.{feature_at, features_of, target_of};
-ghost use Rattle.hs_check.specs.Names.{class_named, feature_named, is_named, node_named};
+ghost use Rattle.hs_types.specs.Metamodel.{feature_at, features_of, supers_of, target_of};
+ghost use Rattle.hs_types.specs.Supertypes.{conforms};
+ghost use Rattle.hs_check.specs.Names.{class_named, feature_named, has_concrete, is_concrete, is_named, node_named};
 
 use hs_expr::Text;
 use hs_types::{ClassNo, FeatureKind, FeatureNo, Meta, PatternNode};
@@ -22,6 +23,30 @@ fn class_place(meta: &Meta, name: &Text) -> Option<usize>
         .classes
         .iter()
         .position(|class| class.name == *name)
+}
+
+/// Whether there can be objects of this very class.
+pub fn is_concrete(meta: &Meta, class: ClassNo) -> bool
+    ensures { result ≡ is_concrete meta.now class }
+{
+    match meta.class(class) {
+        Some(class) => !class.is_abstract,
+        None => false,
+    }
+}
+
+/// Whether some concrete class conforms to this one.
+pub fn has_concrete(meta: &Meta, class: ClassNo) -> bool
+    ensures { result ≡ has_concrete meta.now class }
+{
+    meta.have_common(class, class)
+}
+
+/// Whether the one class conforms to the other.
+pub fn conforms(meta: &Meta, class: ClassNo, above: ClassNo) -> bool
+    ensures { result ≡ conforms (supers_of meta.now) class above }
+{
+    meta.conforms(class, above)
 }
 
 /// The first node of this name.

@@ -2,20 +2,19 @@ ghost use Rattle.std.specs.Prelude.{◌≡◌, ◌∷◌, []};
 ghost use Rattle.std.specs.List.{list_any};
 ghost use Rattle.hs_types.specs.Lists.{map_all, same_text};
 ghost use Rattle.hs_check.specs.Answers.{Gives, Leaves, in_front};
-ghost use Rattle.hs_check.specs.Elements.{names_differ, node_of};
+ghost use Rattle.hs_check.specs.Elements.{has_objects, names_differ, node_of};
 ghost use Rattle.hs_check.specs.Written.{written_nodes};
 
-use crate::RuleFault;
-use crate::fault::needed;
-use crate::names::class_named;
+use crate::names::{class_named, has_concrete, is_concrete};
+use crate::obstacle::{Obstacle, demand, needed};
 use crate::written::mark_of;
 use hs_expr::{List, Name};
 use hs_text::{Element, Item, Mark as WrittenMark, Simple};
-use hs_types::{Meta, PatternNode};
+use hs_types::{ClassNo, Mark, Meta, PatternNode};
 use std::alloc::Global;
 
 /// The nodes that the items declare.
-pub fn nodes_of(alloc: Global, meta: &Meta, items: &[Item]) -> Result<List<PatternNode>, RuleFault>
+pub fn nodes_of(alloc: Global, meta: &Meta, items: &[Item]) -> Result<List<PatternNode>, Obstacle>
     ensures { Gives result (map_all (node_of meta.now) (written_nodes items.now)) }
 {
     let mut nodes = List::new(alloc);
@@ -26,7 +25,7 @@ pub fn nodes_of(alloc: Global, meta: &Meta, items: &[Item]) -> Result<List<Patte
 }
 
 /// Adds the node that the item declares, if it declares one.
-fn add_node(meta: &Meta, nodes: &mut List<PatternNode>, item: &Item) -> Result<(), RuleFault>
+fn add_node(meta: &Meta, nodes: &mut List<PatternNode>, item: &Item) -> Result<(), Obstacle>
     ensures { Leaves result nodes.new
         (in_front nodes.old (map_all (node_of meta.now) (written_nodes (item.now ∷ [])))) }
 {
@@ -49,15 +48,24 @@ fn node_of(
     mark: WrittenMark,
     name: &Name,
     class: &Name,
-) -> Result<PatternNode, RuleFault>
+) -> Result<PatternNode, Obstacle>
     ensures { Gives result (node_of meta.now (record { mark = mark; name = name.now; class = class.now })) }
 {
+    let mark = mark_of(mark);
     let class = needed(class_named(meta, &class.text))?;
+    demand(has_objects(meta, mark, class))?;
     Ok(PatternNode {
         name: name.text.clone()?,
         class,
-        mark: mark_of(mark),
+        mark,
     })
+}
+
+/// Whether objects can be of the class, and be made of it where the node is made.
+fn has_objects(meta: &Meta, mark: Mark, class: ClassNo) -> bool
+    ensures { result ≡ has_objects meta.now mark class }
+{
+    has_concrete(meta, class) && (mark != Mark::Make || is_concrete(meta, class))
 }
 
 /// Whether the nodes have names of their own.

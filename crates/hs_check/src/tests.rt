@@ -1,14 +1,21 @@
-use crate::{RuleFault, read_rule};
+use crate::meant_rule;
 use hs_expr::{List, Text, Value};
+use hs_text::parse;
 use hs_types::{Class, DataType, Feature, FeatureKind, Meta, Metamodel, Rule};
 use std::alloc::{AllocError, Global};
 use std::test::Fail;
 
-fn class(alloc: Global, name: &str, features: &[u16]) -> Result<Class, AllocError> {
+fn class(
+    alloc: Global,
+    name: &str,
+    is_abstract: bool,
+    supers: &[u16],
+    features: &[u16],
+) -> Result<Class, AllocError> {
     Ok(Class {
         name: Text::from_str(alloc, name)?,
-        is_abstract: false,
-        supers: List::new(alloc),
+        is_abstract,
+        supers: List::from_vec(Vec::from_slice(alloc, supers)?),
         features: List::from_vec(Vec::from_slice(alloc, features)?),
     })
 }
@@ -38,12 +45,16 @@ fn attribute(alloc: Global, owner: u16, name: &str) -> Result<Feature, AllocErro
 }
 
 /// Client with the reference accounts to Account; Account with the attribute balance and the
-/// reference owner to Client; and a class whose name is a word of rules.
+/// reference owner to Client; a class whose name is a word of rules; Savings, which is an account;
+/// the abstract class Party, which a client is; and the abstract class Fee, which nothing is.
 fn bank(alloc: Global) -> Result<Option<Meta>, AllocError> {
     let mut classes = List::new(alloc);
-    classes.push(class(alloc, "Client", &[0])?)?;
-    classes.push(class(alloc, "Account", &[1, 2])?)?;
-    classes.push(class(alloc, "set", &[])?)?;
+    classes.push(class(alloc, "Client", false, &[4], &[0])?)?;
+    classes.push(class(alloc, "Account", false, &[], &[1, 2])?)?;
+    classes.push(class(alloc, "set", false, &[], &[])?)?;
+    classes.push(class(alloc, "Savings", false, &[1], &[1, 2])?)?;
+    classes.push(class(alloc, "Party", true, &[], &[])?)?;
+    classes.push(class(alloc, "Fee", true, &[], &[])?)?;
     let mut features = List::new(alloc);
     features.push(reference(alloc, 0, "accounts", 1)?)?;
     features.push(attribute(alloc, 1, "balance")?)?;
@@ -91,20 +102,22 @@ fn answer(alloc: Global, text: &str) -> Result<String, AllocError> {
     let Some(meta) = bank(alloc)? else {
         return String::from_str(alloc, "no metamodel");
     };
-    match read_rule(alloc, &meta, text) {
-        Ok(rule) => shown(alloc, &rule),
-        Err(RuleFault::NotBuilt) => String::from_str(alloc, "not built"),
-        Err(RuleFault::NoMemory) => String::from_str(alloc, "no memory"),
+    let Ok(syntax) = parse(alloc, text) else {
+        return String::from_str(alloc, "no text");
+    };
+    match meant_rule(alloc, &meta, &syntax)? {
+        Some(rule) => shown(alloc, &rule),
+        None => String::from_str(alloc, "none"),
     }
 }
 
-fn is_refused(alloc: Global, text: &str) -> Result<bool, AllocError> {
+fn means_none(alloc: Global, text: &str) -> Result<bool, AllocError> {
     let answer = answer(alloc, text)?;
-    Ok(answer.as_str() == "not built")
+    Ok(answer.as_str() == "none")
 }
 
 #[test]
-fn rules_are_read(rt: HostRuntime) -> Result<(), Fail> {
+fn rules_are_given(rt: HostRuntime) -> Result<(), Fail> {
     let cases = [
         ("rule r() { }", "r"),
         ("rule r() { preserve node c: Client; }", "r c:0:Keep"),
@@ -130,7 +143,6 @@ fn rules_are_read(rt: HostRuntime) -> Result<(), Fail> {
 #[test]
 fn names_and_ends_are_tested(rt: HostRuntime) -> Result<(), Fail> {
     let cases = [
-        "rule r() { preserve node set: Client; }",
         "rule r() { preserve node c: rule; }",
         "rule r() { preserve node c: client; }",
         "rule r() { preserve node c: Client; create node c: Account; }",
@@ -144,13 +156,53 @@ fn names_and_ends_are_tested(rt: HostRuntime) -> Result<(), Fail> {
         "rule r() { create node c: Client; preserve node a: Account; preserve edge c -> a: accounts; }",
     ];
     for text in cases {
-        assert!(rt; is_refused(rt.alloc(), text)?, "{text}");
+        assert!(rt; means_none(rt.alloc(), text)?, "{text}");
     }
     Ok(())
 }
 
 #[test]
-fn other_forms_are_refused(rt: HostRuntime) -> Result<(), Fail> {
+fn subclasses_conform(rt: HostRuntime) -> Result<(), Fail> {
+    let cases = [
+        (
+            "rule r() { preserve node c: Client; create node s: Savings; create edge c -> s: accounts; }",
+            "r c:0:Keep s:3:Make 0-0->1:Make",
+        ),
+        (
+            "rule r() { preserve node c: Client; preserve node s: Savings; preserve edge s -> c: owner; }",
+            "r c:0:Keep s:3:Keep 1-2->0:Keep",
+        ),
+        (
+            "rule r() { preserve node p: Party; preserve node a: Account; create edge a -> p: owner; }",
+            "none",
+        ),
+        (
+            "rule r() { preserve node p: Party; preserve node a: Account; create edge p -> a: accounts; }",
+            "none",
+        ),
+    ];
+    for (text, wanted) in cases {
+        assert_eq!(rt; answer(rt.alloc(), text)?.as_str(), wanted, "{text}");
+    }
+    Ok(())
+}
+
+#[test]
+fn abstract_classes_have_no_objects_of_their_own(rt: HostRuntime) -> Result<(), Fail> {
+    let cases = [
+        ("rule r() { preserve node p: Party; }", "r p:4:Keep"),
+        ("rule r() { create node p: Party; }", "none"),
+        ("rule r() { preserve node f: Fee; }", "none"),
+        ("rule r() { create node f: Fee; }", "none"),
+    ];
+    for (text, wanted) in cases {
+        assert_eq!(rt; answer(rt.alloc(), text)?.as_str(), wanted, "{text}");
+    }
+    Ok(())
+}
+
+#[test]
+fn other_forms_mean_none(rt: HostRuntime) -> Result<(), Fail> {
     let cases = [
         "",
         "// nothing",
@@ -164,12 +216,9 @@ fn other_forms_are_refused(rt: HostRuntime) -> Result<(), Fail> {
         "unit u() sequential { }",
         "rule r() { } unit u() sequential { }",
         "rule r() { } rule q() { }",
-        "rule r() { } ;",
-        "rule r() { preserve node c: Client; ",
-        "rule r() { preserve node c: Cl",
     ];
     for text in cases {
-        assert!(rt; is_refused(rt.alloc(), text)?, "{text}");
+        assert!(rt; means_none(rt.alloc(), text)?, "{text}");
     }
     Ok(())
 }
@@ -213,23 +262,23 @@ fn with_parallel(alloc: Global, count: u32) -> Result<String, AllocError> {
 #[test]
 fn limits_are_kept(rt: HostRuntime) -> Result<(), Fail> {
     let alloc = rt.alloc();
-    assert!(rt; !is_refused(alloc, with_nodes(alloc, 12)?.as_str())?);
-    assert!(rt; is_refused(alloc, with_nodes(alloc, 13)?.as_str())?);
-    assert!(rt; !is_refused(alloc, with_edges(alloc, 16)?.as_str())?);
-    assert!(rt; is_refused(alloc, with_edges(alloc, 17)?.as_str())?);
-    assert!(rt; !is_refused(alloc, with_parallel(alloc, 3)?.as_str())?);
-    assert!(rt; is_refused(alloc, with_parallel(alloc, 4)?.as_str())?);
+    assert!(rt; !means_none(alloc, with_nodes(alloc, 12)?.as_str())?);
+    assert!(rt; means_none(alloc, with_nodes(alloc, 13)?.as_str())?);
+    assert!(rt; !means_none(alloc, with_edges(alloc, 16)?.as_str())?);
+    assert!(rt; means_none(alloc, with_edges(alloc, 17)?.as_str())?);
+    assert!(rt; !means_none(alloc, with_parallel(alloc, 3)?.as_str())?);
+    assert!(rt; means_none(alloc, with_parallel(alloc, 4)?.as_str())?);
     Ok(())
 }
 
 #[test]
-fn many_items_are_refused(rt: HostRuntime) -> Result<(), Fail> {
+fn many_items_mean_none(rt: HostRuntime) -> Result<(), Fail> {
     let alloc = rt.alloc();
     let mut text = String::from_str(alloc, "rule r() {")?;
     for _ in 0..100_000 {
         text.push_str("create node c:Client;")?;
     }
     text.push_str("}")?;
-    assert!(rt; is_refused(alloc, text.as_str())?);
+    assert!(rt; means_none(alloc, text.as_str())?);
     Ok(())
 }

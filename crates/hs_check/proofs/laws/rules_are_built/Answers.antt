@@ -3,4 +3,4 @@ use Rattle.hs_check.proofs.Meant.{meant}
 use Rattle.hs_check.proofs.laws.rules_are_built.Goals as goal
 
 pub returns : goal.returns
-returns c = λ m text rule is. built m rule (meant m is.0 rule is.2)
+returns c = λ m syntax rule is. built m rule (meant m syntax rule is)

@@ -5,49 +5,49 @@ use std::alloc::{AllocError, AllocFailed};
 
 /// Why no rule is given.
 #[derive(Clone, Copy, PartialEq, Eq, Debug)]
-pub enum RuleFault {
-    /// The text means no rule of the form that is built.
+pub enum Obstacle {
+    /// The syntax means no rule of the form that is built.
     NotBuilt,
     /// Memory was wanting.
     NoMemory,
 }
 
-impl From<AllocError> for RuleFault {
+impl From<AllocError> for Obstacle {
     ghost use Rattle.std.specs.Prelude.{◌≡◌};
-    ghost use Rattle.hs_check.specs.declared.fault.RuleFault.TheVariants.{NoMemory};
+    ghost use Rattle.hs_check.specs.declared.obstacle.Obstacle.TheVariants.{NoMemory};
 
     ghost from_gives = { λ _ e. e ≡ NoMemory };
 
-    fn from(_error: AllocError) -> RuleFault {
-        RuleFault::NoMemory
+    fn from(_error: AllocError) -> Obstacle {
+        Obstacle::NoMemory
     }
 }
 
-impl<T: Drop> From<AllocFailed<T>> for RuleFault {
+impl<T: Drop> From<AllocFailed<T>> for Obstacle {
     ghost use Rattle.std.specs.Prelude.{◌≡◌};
-    ghost use Rattle.hs_check.specs.declared.fault.RuleFault.TheVariants.{NoMemory};
+    ghost use Rattle.hs_check.specs.declared.obstacle.Obstacle.TheVariants.{NoMemory};
 
     ghost from_gives = { λ _ e. e ≡ NoMemory };
 
-    fn from(_error: AllocFailed<T>) -> RuleFault {
-        RuleFault::NoMemory
+    fn from(_error: AllocFailed<T>) -> Obstacle {
+        Obstacle::NoMemory
     }
 }
 
 /// Goes on where the test is true.
-pub fn demand(test: bool) -> Result<(), RuleFault>
+pub fn demand(test: bool) -> Result<(), Obstacle>
     ensures { Gives result (demand test) }
 {
     if test {
         Ok(())
     } else {
-        Err(RuleFault::NotBuilt)
+        Err(Obstacle::NotBuilt)
     }
 }
 
 /// Goes on with the value, where there is one.
-pub fn needed<T>(value: Option<T>) -> Result<T, RuleFault>
+pub fn needed<T>(value: Option<T>) -> Result<T, Obstacle>
     ensures { Gives result value }
 {
-    value.ok_or(RuleFault::NotBuilt)
+    value.ok_or(Obstacle::NotBuilt)
 }
