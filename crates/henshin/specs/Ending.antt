@@ -1,12 +1,11 @@
 -- How a run of the program ends, and what it leaves in the sink.
 use Rattle.std.specs.Prelude.{ℕ, ◌≡◌, List, ◌++◌, Option, IfSome}
 use Rattle.std.specs.Io.KnownBytes.{Appends}
-use Rattle.hs_types.specs.declared.unit.RuleSet.{RuleSet}
 use Rattle.hs_session.specs.declared.report.Report.{Report}
 use Rattle.henshin.specs.declared.status.Status.{Status}
 use Rattle.henshin.specs.declared.status.Status.TheVariants as status
-use Rattle.henshin.specs.Bundle.{IsServed}
-use Rattle.henshin.specs.ReportText.{report_text}
+use Rattle.henshin.specs.declared.words.Command.{Command}
+use Rattle.henshin.specs.Served.{Gives}
 
 -- The run came to its writing.
 abbrev pub IsWritten : Status → Type 0
@@ -15,14 +14,14 @@ IsWritten status.WriteFault = Unit {0}
 IsWritten status.Usage = ⊥
 IsWritten status.ReadFault = ⊥
 IsWritten status.TooLong = ⊥
+IsWritten (status.Refused refusal) = ⊥
 IsWritten status.NoMemory = ⊥
-IsWritten status.NotBuilt = ⊥
 
 -- The source was read to its end.
 abbrev pub IsRead : Status → Type 0
 IsRead status.Done = Unit {0}
 IsRead status.WriteFault = Unit {0}
-IsRead status.NotBuilt = Unit {0}
+IsRead (status.Refused refusal) = Unit {0}
 IsRead status.Usage = ⊥
 IsRead status.ReadFault = ⊥
 IsRead status.TooLong = ⊥
@@ -38,10 +37,10 @@ Writes status.Done text old new = Appends old new text
 Writes status.WriteFault text old new = GainsFront text old new
 Writes _ text old new = ⊥
 
--- A run that came to its writing: the bytes are those that the source had left, where it tells them; the report is the serial report of the bundle that they are; and it was written.
-pub record IsRun (ending : Status) (report : Report) (left old new : Option (List ℕ)) : Type 0 where
+-- A run that came to its writing: the bytes are those that the source had left, where it tells them; report and text are what the command gives for them; and the text was written.
+pub record IsRun (command : Command) (ending : Status) (report : Option Report) (left old new : Option (List ℕ)) : Type 0 where
   pub bytes : List ℕ
-  pub rules : RuleSet
+  pub text : List ℕ
   pub all_that_was_left : IfSome left (λ told. told ≡ bytes)
-  pub is_served : IsServed bytes rules report
-  pub is_written : Writes ending (report_text rules report) old new
+  pub gives : Gives command bytes report text
+  pub is_written : Writes ending text old new

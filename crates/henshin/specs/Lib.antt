@@ -1,4 +1,5 @@
-pub mod Bundle
 pub mod Ending
-pub mod Refusing
 pub mod ReportText
+pub mod Served
+pub mod Statuses
+pub mod Words

@@ -1,17 +1,17 @@
 //! `henshin`: rule-based change of a typed graph, from the command line.
 //!
-//! [`once`](once::once) is the program over any source and sink; `main` hands it the real ones. The way
-//! of `apply`: the source is read to its end ([`reading`]), the bundle that the bytes are is read and
-//! its request run ([`serving`]), the report becomes a text ([`lines`]), and the text is written
-//! ([`writing`]).
+//! [`once`](once::once) is the program over any source and sink; `main` hands it the real ones. The
+//! words say the command ([`words`]), the source is read to its end ([`reading`]), the bundle that the
+//! bytes are is read and served ([`serving`]), a report becomes a text ([`lines`]), and the text is
+//! written ([`writing`]). [`status`] has how a run can end.
 #![tactic(auto)]
 
-mod fault;
 mod lines;
 mod once;
 mod reading;
 mod serving;
 mod status;
+mod words;
 mod writing;
 
 use hs_base::{SinkStd, SourceStd};
@@ -22,9 +22,17 @@ use std::process::ExitCode;
 
 fn main(rt: HostRuntime) -> ExitCode {
     let status = run(&rt);
-    if let Some(line) = fault_line(status) {
-        let _ = rt.eprintln(line);
-    }
+    let status = match fault_line(rt.alloc(), &status) {
+        Ok(None) => status,
+        Ok(Some(line)) => {
+            let _ = rt.eprintln(line.as_str());
+            status
+        }
+        Err(_) => {
+            let _ = rt.eprintln("henshin: memory");
+            Status::NoMemory
+        }
+    };
     ExitCode::from(status.number())
 }
 

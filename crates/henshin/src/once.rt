@@ -1,18 +1,17 @@
-ghost use Rattle.std.specs.Prelude.{◌≡◌, ◌≢◌, ◌↔◌, ◌<◌, ◌≤◌, List, [], ◌∷◌, Some, None, true, codes, length, map, string_bytes, IsTrue, IfSome, IsSome, IfErr, IfOk};
-ghost use Rattle.hs_types.specs.declared.unit.RuleSet.{RuleSet};
-ghost use Rattle.henshin.specs.Bundle.{HasNoBundle, IsServed};
-ghost use Rattle.henshin.specs.Ending.{IsRead, IsRun, IsWritten};
-ghost use Rattle.henshin.specs.ReportText.{report_text};
+ghost use Rattle.std.specs.Prelude.{◌≡◌, ◌≢◌, ◌↔◌, ◌<◌, ◌≤◌, [], Some, None, true, length, map, string_bytes, IfSome, IsSome};
 ghost use Rattle.hs_base.specs.Faults.{one_more};
+ghost use Rattle.hs_input.specs.Refusing.{Refuses};
+ghost use Rattle.henshin.specs.Ending.{IsRead, IsRun, IsWritten};
+ghost use Rattle.henshin.specs.Words.{AreWords};
 
-use crate::fault::Refusal;
-use crate::lines::report_text;
 use crate::reading::{ReadError, read_all};
-use crate::serving::serve;
+use crate::serving::{Answer, answer};
 use crate::status::Status;
+use crate::words::{Command, command_of};
 use crate::writing::write_all;
 use hs_base::{Sink, Source};
-use hs_expr::Text;
+use hs_expr::Failure;
+use hs_input::Refusal;
 use hs_session::Report;
 use std::alloc::Global;
 
@@ -23,7 +22,7 @@ pub const BUNDLE_BYTES: usize = 67_108_864;
 #[derive(Debug, Drop)]
 pub struct Outcome {
     pub status: Status,
-    /// There where the status is Done or WriteFault.
+    /// There where the command is `apply` and the status is Done or WriteFault.
     pub report: Option<Report>,
 }
 
@@ -35,7 +34,7 @@ pub fn once<S: Source, K: Sink>(
     sink: &mut K,
 ) -> Outcome
     // The words.
-    ensures usage { (result.status ≡ Status.Usage) ↔ (map string_bytes words.now ≢ codes "apply" ∷ []) }
+    ensures usage { (result.status ≡ Status.Usage) ↔ ((command : Command) → ¬ AreWords (map string_bytes words.now) command) }
     ensures untouched { result.status ≡ Status.Usage → source.new ≡ source.old }
 
     // The source: its fault is told exactly where a read failed, and then no further read is made.
@@ -44,73 +43,46 @@ pub fn once<S: Source, K: Sink>(
     ensures too_long { result.status ≡ Status.TooLong → IfSome (S.left source.old) (λ bytes. BUNDLE_BYTES < length bytes) }
     ensures read { IsRead result.status → IfSome (S.left source.old) (λ bytes. (length bytes ≤ BUNDLE_BYTES) × (S.left source.new ≡ Some [])) }
 
+    // The bytes: each refusal has its cause.
+    ensures refused { (refusal : Refusal) → result.status ≡ Status.Refused refusal → IfSome (S.left source.old) (λ bytes. Refuses bytes refusal) }
+
     // The sink: its fault is told exactly where a write failed, and then no further write is made.
     ensures unwritten { ¬ (IsWritten result.status) → sink.new ≡ sink.old }
     ensures write_fault { result.status ≡ Status.WriteFault → (K.failed sink.new ≡ true) × (K.faults sink.new ≡ one_more (K.faults sink.old)) }
     ensures sink_well { result.status ≢ Status.WriteFault → K.faults sink.new ≡ K.faults sink.old }
 
-    // What was read and written: the serial report of the bundle that the bytes are, or a front of
-    // its text; nothing where they are no bundle.
-    ensures report { IsSome result.report ↔ IsWritten result.status }
-    ensures serial { IfSome result.report (λ report. IsRun result.status report (S.left source.old) (K.written sink.old) (K.written sink.new)) }
-    ensures not_built { result.status ≡ Status.NotBuilt → IfSome (S.left source.old) HasNoBundle }
+    // What was written: what the command gives for the bytes, or a front of it. Only `apply` reports.
+    ensures served { IsWritten result.status → (command : Command) × AreWords (map string_bytes words.now) command
+        × IsRun command result.status result.report (S.left source.old) (K.written sink.old) (K.written sink.new) }
+    ensures unreported { ¬ (IsWritten result.status) → result.report ≡ None }
 {
-    if !is_apply(words) {
-        return refused(Status::Usage);
-    }
+    let Some(command) = command_of(words) else {
+        return ended(Status::Usage);
+    };
     let bytes = match read_all(alloc, source, BUNDLE_BYTES) {
         Ok(bytes) => bytes,
-        Err(ReadError::Failed) => return refused(Status::ReadFault),
-        Err(ReadError::TooLong) => return refused(Status::TooLong),
-        Err(ReadError::NoMemory) => return refused(Status::NoMemory),
+        Err(ReadError::Failed) => return ended(Status::ReadFault),
+        Err(ReadError::TooLong) => return ended(Status::TooLong),
+        Err(ReadError::NoMemory) => return ended(Status::NoMemory),
     };
-    let (report, text) = match reported(alloc, bytes.as_slice()) {
-        Ok(reported) => reported,
-        Err(Refusal::NotBuilt) => return refused(Status::NotBuilt),
-        Err(Refusal::NoMemory) => return refused(Status::NoMemory),
+    let Answer { report, text } = match answer(alloc, command, bytes.as_slice()) {
+        Ok(answer) => answer,
+        Err(Failure::Fault(refusal)) => return ended(Status::Refused(refusal)),
+        Err(Failure::NoMemory) => return ended(Status::NoMemory),
     };
     let status = match write_all(sink, text.as_str().as_bytes()) {
         Ok(()) => Status::Done,
         Err(_) => Status::WriteFault,
     };
-    Outcome {
-        status,
-        report: Some(report),
-    }
+    Outcome { status, report }
 }
 
-/// The report of the bundle that the bytes are, and its text.
-fn reported(alloc: Global, bytes: &[u8]) -> Result<(Report, Text), Refusal>
-    ensures made { IfOk result (λ made. (rules : RuleSet) × IsServed bytes.now rules made.0 × (made.1 ≡ report_text rules made.0)) }
-    ensures not_built { IfErr result (λ refusal. refusal ≡ Refusal.NotBuilt → HasNoBundle bytes.now) }
-{
-    let served = serve(alloc, bytes)?;
-    let text = report_text(alloc, &served.rules, &served.report)?;
-    Ok((served.report, text))
-}
-
-fn refused(status: Status) -> Outcome
+/// A run that ended before its writing.
+fn ended(status: Status) -> Outcome
     ensures { result ≡ record { status = status; report = None } }
 {
     Outcome {
         status,
         report: None,
     }
-}
-
-/// Whether the words are `apply` alone.
-#[tactic(auto, using(crate::proofs::Lists::alone))]
-fn is_apply(words: &[String]) -> bool
-    ensures { IsTrue result ↔ (map string_bytes words.now ≡ codes "apply" ∷ []) }
-{
-    match words {
-        [word] => is_apply_word(word.as_str()),
-        _ => false,
-    }
-}
-
-fn is_apply_word(word: &str) -> bool
-    ensures { IsTrue result ↔ (word.now ≡ codes "apply") }
-{
-    word == "apply"
 }

@@ -1,73 +1,143 @@
-//! From a bundle's bytes to the report of its run.
+//! From a bundle's bytes to what a command gives for them.
 
-ghost use Rattle.std.specs.Prelude.{◌≡◌, ◌∷◌, [], IfErr, IfNone, IfOk, IfSome, IsTrue, List, ◌↔◌};
+ghost use Rattle.std.specs.Prelude.{ℕ, ◌≡◌, ◌×◌, [], ◌∷◌, IfOk, List, Some};
 ghost use Rattle.std.specs.Arc.{arc_value};
-ghost use Rattle.hs_types.specs.declared.request.Request.{Request};
-ghost use Rattle.henshin.specs.Bundle.{HasNoBundle, IsServed};
+ghost use Rattle.serde_json.specs.Data.{Data};
+ghost use Rattle.hs_types.specs.Metamodel.{IsMeta};
+ghost use Rattle.hs_types.specs.TypedGraph.{IsTyped};
+ghost use Rattle.hs_bundle.specs.Reading.{Contents};
+ghost use Rattle.hs_bundle.specs.Sound.{IsSound};
+ghost use Rattle.hs_input.specs.Input.{IsInput};
+ghost use Rattle.hs_input.specs.Refusing.{Tells};
+ghost use Rattle.hs_input.specs.Work.{work_of};
+ghost use Rattle.hs_session.specs.Runnable.{IsRunnable};
+ghost use Rattle.hs_session.specs.SerialReport.{IsSerialReport};
+ghost use Rattle.henshin.specs.Served.{Gives, IsSetOf, plain_call, sessions_of};
 
-use crate::fault::Refusal;
-use hs_check::read_rule;
-use hs_expr::{Exact, List};
-use hs_json::{Bundle, read_bundle};
-use hs_session::{Report, run_serial};
-use hs_types::{Meta, Request, Rule, RuleSet};
+use crate::lines::report_text;
+use crate::words::Command;
+use hs_bundle::problems_text;
+use hs_expr::{Failure, List, Text};
+use hs_input::{Input, Refusal, Work, read_input};
+use hs_session::{Report, run_nothing, run_serial};
+use hs_text::print;
+use hs_types::{Args, ListGraph, Meta, Request, Rule, RuleSet};
 use std::alloc::{AllocError, Global};
 use std::sync::Arc;
 
-/// The rules of a bundle, and what its run gives.
+/// What a command gives for a bundle.
 #[derive(Debug, Drop)]
-pub struct Served {
-    pub rules: RuleSet,
-    pub report: Report,
+pub struct Answer {
+    /// There for `apply` alone.
+    pub report: Option<Report>,
+    /// What is written.
+    pub text: Text,
 }
 
-/// Reads the bundle that the bytes are and runs its request.
-pub fn serve(alloc: Global, bytes: &[u8]) -> Result<Served, Refusal>
-    ensures served { IfOk result (λ served. IsServed bytes.now served.rules served.report) }
-    ensures not_built { IfErr result (λ refusal. refusal ≡ Refusal.NotBuilt → HasNoBundle bytes.now) }
+/// The rules that a run took, and what it gave.
+#[derive(Debug, Drop)]
+struct Ran {
+    rules: RuleSet,
+    report: Report,
+}
+
+/// What the command gives for the bundle that the bytes are, or why they are refused.
+pub fn answer(alloc: Global, command: Command, bytes: &[u8]) -> Result<Answer, Failure<Refusal>>
+    ensures gives { IfOk result (λ answer. Gives command bytes.now answer.report answer.text) }
+    ensures refused { Tells bytes.now result }
 {
-    let Bundle {
-        graph,
+    let input = read_input(alloc, bytes)?;
+    Ok(match command {
+        Command::Apply => applied(alloc, input)?,
+        Command::Validate => validated(alloc, &input)?,
+        Command::Check => checked(alloc, &input)?,
+    })
+}
+
+/// The problems of the graph.
+fn validated(alloc: Global, input: &Input) -> Result<Answer, AllocError>
+    requires sound { IsSound (arc_value input.now.graph.meta) input.now.graph.graph }
+    ensures { (bytes : List ℕ) (held : Contents) → IsInput bytes held input.now → IfOk result (λ answer. Gives Command.Validate bytes answer.report answer.text) }
+{
+    Ok(Answer {
+        report: None,
+        text: problems_text(alloc, &input.graph.meta, &input.graph.graph)?,
+    })
+}
+
+/// The canonical text of the rules.
+fn checked(alloc: Global, input: &Input) -> Result<Answer, AllocError>
+    ensures { (bytes : List ℕ) (held : Contents) → IsInput bytes held input.now → IfOk result (λ answer. Gives Command.Check bytes answer.report answer.text) }
+{
+    Ok(Answer {
+        report: None,
+        text: print(alloc, &input.syntax)?,
+    })
+}
+
+/// The report of what is asked for.
+fn applied(alloc: Global, input: Input) -> Result<Answer, AllocError>
+    requires sound { IsSound (arc_value input.graph.meta) input.graph.graph }
+    requires asked { (whole : Data) × (work_of (arc_value input.graph.meta) input.syntax whole ≡ Some input.work) }
+    ensures { (bytes : List ℕ) (held : Contents) → IsInput bytes held input → IfOk result (λ answer. Gives Command.Apply bytes answer.report answer.text) }
+{
+    let Ran { rules, report } = match input.work {
+        Work::Nothing => ran_nothing(alloc, input.graph)?,
+        Work::Once(rule) => ran_once(alloc, input.graph, rule)?,
+    };
+    let text = report_text(alloc, &rules, &report)?;
+    Ok(Answer {
+        report: Some(report),
         text,
-        sessions,
-    } = read_bundle(alloc, bytes)?;
-    let rule = read_rule(alloc, &graph.meta, text.as_str())?;
-    let Some(request) = only_request(&sessions) else {
-        return Err(Refusal::NotBuilt);
+    })
+}
+
+fn ran_nothing(alloc: Global, graph: ListGraph) -> Result<Ran, AllocError>
+    ensures set { IfOk result (λ ran. IsSetOf (arc_value graph.meta) Work.Nothing ran.rules) }
+    ensures serial { IfOk result (λ ran. IsSerialReport ran.rules graph.graph (sessions_of Work.Nothing) ran.report) }
+{
+    let rules = RuleSet {
+        meta: graph.meta.clone()?,
+        rules: List::new(alloc),
+        units: List::new(alloc),
     };
-    if !calls(request, &rule) {
-        return Err(Refusal::NotBuilt);
-    }
+    let report = run_nothing(alloc, graph);
+    Ok(Ran { rules, report })
+}
+
+fn ran_once(alloc: Global, graph: ListGraph, rule: Rule) -> Result<Ran, AllocError>
+    requires model { IsMeta (arc_value graph.meta) }
+    requires typed { IsTyped (arc_value graph.meta) graph.graph }
+    requires runnable { IsRunnable (arc_value graph.meta) graph.graph rule }
+    ensures set { IfOk result (λ ran. IsSetOf (arc_value graph.meta) (Work.Once rule) ran.rules) }
+    ensures serial { IfOk result (λ ran. IsSerialReport ran.rules graph.graph (sessions_of (Work.Once rule)) ran.report) }
+{
+    let request = plain_call(alloc, &rule)?;
     let rules = rule_set(alloc, &graph.meta, rule)?;
-    let report = run_serial(alloc, graph, &rules, 0, request)?;
-    Ok(Served { rules, report })
+    let report = run_serial(alloc, graph, &rules, 0, &request)?;
+    Ok(Ran { rules, report })
 }
 
-/// The request, where there is one session with one request.
-fn only_request(sessions: &List<List<Request>>) -> Option<&Request>
-    ensures one { IfSome result (λ request. sessions.now ≡ (request.now ∷ []) ∷ []) }
-    ensures other { IfNone result ((request : Request) → sessions.now ≡ (request ∷ []) ∷ [] → ⊥) }
+/// The request that calls the rule, and says no more.
+fn plain_call(alloc: Global, rule: &Rule) -> Result<Request, AllocError>
+    ensures { IfOk result (λ request. request ≡ plain_call rule.now.name) }
 {
-    let [session] = sessions.as_slice() else {
-        return None;
-    };
-    let [request] = session.as_slice() else {
-        return None;
-    };
-    Some(request)
+    Ok(Request {
+        call: rule.name.clone()?,
+        args: Args {
+            list: List::new(alloc),
+        },
+        fuel: DEFAULT_FUEL,
+        group: false,
+    })
 }
 
-fn calls(request: &Request, rule: &Rule) -> bool
-    ensures { IsTrue result ↔ (request.now.call ≡ rule.now.name) }
-{
-    request.call.is(&rule.name)
-}
+/// The fuel of a request that names none.
+const DEFAULT_FUEL: u32 = 1_000;
 
 /// The set of this one rule over a metamodel.
 fn rule_set(alloc: Global, meta: &Arc<Meta>, rule: Rule) -> Result<RuleSet, AllocError>
-    ensures meta { IfOk result (λ set. arc_value set.meta ≡ arc_value meta.now) }
-    ensures rules { IfOk result (λ set. set.rules ≡ rule ∷ []) }
-    ensures units { IfOk result (λ set. set.units ≡ []) }
+    ensures { IfOk result (IsSetOf (arc_value meta.now) (Work.Once rule)) }
 {
     let mut rules = List::new(alloc);
     rules.push(rule)?;

@@ -1,5 +1,13 @@
+ghost use Rattle.std.specs.Prelude.{◌≡◌, IfOk, map, option_map};
+ghost use Rattle.henshin.specs.Statuses as spec;
+
+use hs_bundle::BundleFault;
+use hs_expr::Text;
+use hs_input::Refusal;
+use std::alloc::{AllocError, Global};
+
 /// How a run of the program ended.
-#[derive(Clone, Copy, PartialEq, Eq, Debug)]
+#[derive(Debug, Drop)]
 pub enum Status {
     /// The whole text was written.
     Done,
@@ -9,38 +17,58 @@ pub enum Status {
     ReadFault,
     /// The source gave more bytes than a bundle may have.
     TooLong,
+    /// The bytes are refused.
+    Refused(Refusal),
     /// The sink failed.
     WriteFault,
     /// Memory was wanting.
     NoMemory,
-    /// The bytes are no bundle of the form that is built.
-    NotBuilt,
 }
 
 impl Status {
     /// The number that the process ends with.
-    pub fn number(self) -> u8 {
+    pub fn number(&self) -> u8
+        ensures { result ≡ spec.number_of self.now }
+    {
         match self {
             Status::Done => 0,
             Status::Usage => 2,
             Status::ReadFault => 3,
             Status::TooLong => 4,
+            Status::Refused(refusal) => refusal_number(refusal),
             Status::WriteFault => 18,
             Status::NoMemory => 20,
-            Status::NotBuilt => 21,
         }
     }
 }
 
-/// The line that tells a status on standard error; none where all is well.
-pub fn fault_line(status: Status) -> Option<&'static str> {
-    match status {
-        Status::Done => None,
-        Status::Usage => Some("henshin: usage"),
-        Status::ReadFault => Some("henshin: read"),
-        Status::TooLong => Some("henshin: too-long"),
-        Status::WriteFault => Some("henshin: write"),
-        Status::NoMemory => Some("henshin: memory"),
-        Status::NotBuilt => Some("henshin: not-built"),
+fn refusal_number(refusal: &Refusal) -> u8
+    ensures { result ≡ spec.refusal_number refusal.now }
+{
+    match refusal {
+        Refusal::NoBundle(BundleFault::BadJson) => 5,
+        Refusal::NoBundle(BundleFault::BadBundle(_)) => 6,
+        Refusal::NoBundle(BundleFault::BadModel(_)) => 7,
+        Refusal::NoBundle(BundleFault::BadGraph(_)) => 8,
+        Refusal::BadText { .. } => 9,
+        Refusal::BadRule(fault) if fault.in_unit => 11,
+        Refusal::BadRule(_) => 10,
+        Refusal::NotBuilt => 21,
     }
+}
+
+/// The line that tells a status on standard error, without its end; none where all is well.
+pub fn fault_line(alloc: Global, status: &Status) -> Result<Option<Text>, AllocError>
+    ensures { IfOk result (λ line. line ≡ spec.fault_line status.now) }
+{
+    let line = match status {
+        Status::Done => return Ok(None),
+        Status::Usage => Text::from_str(alloc, "henshin: usage"),
+        Status::ReadFault => Text::from_str(alloc, "henshin: read"),
+        Status::TooLong => Text::from_str(alloc, "henshin: too-long"),
+        Status::Refused(refusal) => refusal.line(alloc),
+        Status::WriteFault => Text::from_str(alloc, "henshin: write"),
+        Status::NoMemory => Text::from_str(alloc, "henshin: memory"),
+    };
+    Ok(Some(line?))
 }

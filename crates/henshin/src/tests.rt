@@ -1,11 +1,10 @@
 ghost use Rattle.std.specs.Prelude.{◌≤◌};
 
 use crate::once::once;
-use crate::status::Status;
+use crate::status::fault_line;
 use hs_base::{SinkMem, SourceMem};
-use hs_expr::List;
+use hs_expr::{List, Text};
 use std::alloc::{AllocError, Global};
-use std::process::Abort;
 use std::test::Fail;
 
 /// The metamodel of clients with their accounts.
@@ -101,6 +100,124 @@ const TWO_MISSED: &str =
 {\"graph\":[{\"attrs\":{},\"class\":\"Account\",\"name\":\"a1\",\"refs\":{}},{\"attrs\":{},\"class\":\"Account\",\"name\":\"a2\",\"refs\":{}}]}
 ";
 
+/// A box, and a rule that makes another of a class below it, inside the first; what a box has is left
+/// out, or inherited.
+const WIDE: &str = "{\"meta\": {\"classes\": [
+  {\"name\": \"Thing\", \"abstract\": true, \"attributes\": [{\"name\": \"label\", \"type\": \"EString\", \"default\": \"new\"}], \"references\": [{\"name\": \"parts\", \"target\": \"Thing\", \"containment\": true, \"upper\": -1}]},
+  {\"name\": \"Box\", \"supers\": [\"Thing\"], \"attributes\": [{\"name\": \"size\", \"type\": \"EInt\"}]}]},
+\"graph\": [{\"name\": \"#6\", \"class\": \"Box\", \"attrs\": {\"label\": \"old\"}}],
+\"rules\": \"rule fill() { preserve node t: Thing; create node b: Box; create edge t -> b: parts; }\",
+\"sessions\": [[{\"call\": \"fill\"}]]}";
+
+const FILLED: &str =
+    "{\"args\":{},\"attempt\":0,\"copies\":[],\"edges\":[],\"gone\":[],\"new\":[\"#7\"],\"nodes\":[\"#6\"],\"old\":[],\"outcome\":\"applied\",\"place\":0,\"request\":0,\"rule\":\"fill\",\"session\":0}
+{\"outs\":{},\"places\":[0],\"reply\":\"ok\",\"request\":0,\"session\":0}
+{\"graph\":[{\"attrs\":{\"label\":\"old\",\"size\":0},\"class\":\"Box\",\"name\":\"#6\",\"refs\":{\"parts\":[\"#7\"]}},{\"attrs\":{\"label\":\"new\",\"size\":0},\"class\":\"Box\",\"name\":\"#7\",\"refs\":{}}]}
+";
+
+/// An account that two clients own.
+const OWNED: &str = "{\"meta\": {\"classes\": [
+  {\"name\": \"Client\", \"references\": [{\"name\": \"accounts\", \"target\": \"Account\", \"upper\": -1}]},
+  {\"name\": \"Account\", \"attributes\": [{\"name\": \"balance\", \"type\": \"EInt\"}], \"references\": [{\"name\": \"owner\", \"target\": \"Client\"}]}]},
+\"graph\": [{\"name\": \"c1\", \"class\": \"Client\"}, {\"name\": \"c2\", \"class\": \"Client\"},
+  {\"name\": \"a1\", \"class\": \"Account\", \"refs\": {\"owner\": [\"c1\", \"c2\"]}}]}";
+
+const OWNED_PROBLEMS: &str =
+    "{\"object\":\"a1\",\"problem\":\"upper\",\"reference\":\"Account.owner\"}
+{\"problems\":1}
+";
+
+/// Twenty objects, some of which have a problem of each kind.
+const TWENTY: &str = "{\"meta\": {\"classes\": [{\"name\": \"N\", \"references\": [
+  {\"name\": \"in\", \"target\": \"N\", \"containment\": true, \"upper\": -1},
+  {\"name\": \"to\", \"target\": \"N\", \"lower\": 1, \"upper\": 2}]}]},
+\"graph\": [
+  {\"name\": \"o0\", \"class\": \"N\"}, {\"name\": \"o1\", \"class\": \"N\", \"refs\": {\"to\": [\"o0\", \"o0\", \"o0\"]}},
+  {\"name\": \"o2\", \"class\": \"N\", \"refs\": {\"in\": [\"o3\"], \"to\": [\"o2\"]}}, {\"name\": \"o3\", \"class\": \"N\", \"refs\": {\"in\": [\"o4\"]}},
+  {\"name\": \"o4\", \"class\": \"N\", \"refs\": {\"in\": [\"o2\", \"o5\"], \"to\": [\"o0\"]}}, {\"name\": \"o5\", \"class\": \"N\", \"refs\": {\"to\": [\"o0\"]}},
+  {\"name\": \"o6\", \"class\": \"N\", \"refs\": {\"in\": [\"o6\"], \"to\": [\"o0\"]}}, {\"name\": \"o7\", \"class\": \"N\", \"refs\": {\"in\": [\"o5\"], \"to\": [\"o0\"]}},
+  {\"name\": \"o8\", \"class\": \"N\", \"refs\": {\"to\": [\"o9\"]}}, {\"name\": \"o9\", \"class\": \"N\", \"refs\": {\"to\": [\"o8\"]}},
+  {\"name\": \"p0\", \"class\": \"N\", \"refs\": {\"to\": [\"o0\"]}}, {\"name\": \"p1\", \"class\": \"N\", \"refs\": {\"to\": [\"o0\"]}},
+  {\"name\": \"p2\", \"class\": \"N\", \"refs\": {\"to\": [\"o0\"]}}, {\"name\": \"p3\", \"class\": \"N\", \"refs\": {\"to\": [\"o0\"]}},
+  {\"name\": \"p4\", \"class\": \"N\", \"refs\": {\"to\": [\"o0\"]}}, {\"name\": \"p5\", \"class\": \"N\", \"refs\": {\"to\": [\"o0\"]}},
+  {\"name\": \"p6\", \"class\": \"N\", \"refs\": {\"to\": [\"o0\"]}}, {\"name\": \"p7\", \"class\": \"N\", \"refs\": {\"to\": [\"o0\"]}},
+  {\"name\": \"p8\", \"class\": \"N\", \"refs\": {\"to\": [\"o0\"]}}, {\"name\": \"p9\", \"class\": \"N\", \"refs\": {\"to\": [\"o0\"], \"in\": [\"p8\", \"o5\"]}}]}";
+
+const TWENTY_PROBLEMS: &str =
+    "{\"object\":\"o0\",\"problem\":\"lower\",\"reference\":\"N.to\"}
+{\"object\":\"o1\",\"problem\":\"upper\",\"reference\":\"N.to\"}
+{\"object\":\"o2\",\"problem\":\"cycle\"}
+{\"object\":\"o3\",\"problem\":\"lower\",\"reference\":\"N.to\"}
+{\"object\":\"o3\",\"problem\":\"cycle\"}
+{\"object\":\"o4\",\"problem\":\"cycle\"}
+{\"object\":\"o5\",\"problem\":\"containers\"}
+{\"object\":\"o6\",\"problem\":\"cycle\"}
+{\"problems\":8}
+";
+
+/// A rule, and a unit that calls it, as they may be written.
+const LONE: &str = "{\"meta\": {\"classes\": [{\"name\": \"Client\"}]},
+\"rules\": \"rule lone(out c:Client){create node c:Client;} unit many ( )loop{lone();}\"}";
+
+const LONE_PRINTED: &str = "rule lone(out c: Client) {
+  create node c: Client;
+}
+
+unit many() loop {
+  lone();
+}
+";
+
+/// Bundles that are refused, each with its status's number and its line.
+const REFUSED: [(u8, &str, &str); 18] = [
+    (5, "henshin: bad-json", ""),
+    (5, "henshin: bad-json", "{\"meta\": {\"classes\": []}"),
+    (6, "henshin: bad-bundle /", "[]"),
+    (6, "henshin: bad-bundle /meta", "{}"),
+    (6, "henshin: bad-bundle /graphs", "{\"rule\": 1, \"graphs\": [], \"meta\": 5}"),
+    (6, "henshin: bad-bundle /rules", "{\"meta\": {}, \"rules\": 1}"),
+    (7, "henshin: bad-model /meta/class form", "{\"meta\": {\"class\": []}, \"graph\": 1}"),
+    (
+        7,
+        "henshin: bad-model /meta/classes/0 supercycle",
+        "{\"meta\": {\"classes\": [{\"name\": \"A\", \"supers\": [\"B\"]}, {\"name\": \"B\", \"supers\": [\"A\"]}]}}",
+    ),
+    (
+        8,
+        "henshin: bad-graph /graph/0 abstract",
+        "{\"meta\": {\"classes\": [{\"name\": \"A\", \"abstract\": true}, {\"name\": \"B\", \"supers\": [\"A\"]}]}, \"graph\": [{\"name\": \"a\", \"class\": \"A\"}], \"rules\": \"(\"}",
+    ),
+    (9, "henshin: bad-text 1:9 order", "{\"meta\": {\"classes\": []}, \"rules\": \"rule r( {\"}"),
+    (9, "henshin: bad-text 2:1 end", "{\"meta\": {\"classes\": []}, \"rules\": \"rule\\n\"}"),
+    (
+        10,
+        "henshin: bad-rule 1:40 writeondeleted",
+        "{\"meta\": {\"classes\": [{\"name\": \"Account\"}]}, \"rules\": \"rule r() { delete node x: Account; set x.balance = 1; } unit r() sequential { }\"}",
+    ),
+    (
+        11,
+        "henshin: bad-unit 1:6 unitcycle",
+        "{\"meta\": {\"classes\": []}, \"rules\": \"unit a() sequential { b(); } unit b() sequential { a(); }\", \"sessions\": 5}",
+    ),
+    (21, "henshin: not-built", "{\"meta\": {\"classes\": []}, \"journal\": {}}"),
+    (21, "henshin: not-built", "{\"meta\": {\"classes\": []}, \"sessions\": [[]]}"),
+    (
+        21,
+        "henshin: not-built",
+        "{\"meta\": {\"classes\": []}, \"rules\": \"rule r() { }\", \"sessions\": [[{\"call\": \"s\"}]]}",
+    ),
+    (
+        21,
+        "henshin: not-built",
+        "{\"meta\": {\"classes\": []}, \"rules\": \"rule r() { }\", \"sessions\": [[{\"call\": \"r\", \"fuel\": 1000}]]}",
+    ),
+    (
+        21,
+        "henshin: not-built",
+        "{\"meta\": {\"classes\": [{\"name\": \"Account\"}]}, \"rules\": \"rule r() { delete node a: Account; }\", \"sessions\": [[{\"call\": \"r\"}]]}",
+    ),
+];
+
 /// What a run is over: how the source and the sink move bytes, and which of their calls fail.
 #[derive(Clone, Copy)]
 struct Setting {
@@ -124,8 +241,27 @@ fn plain() -> Setting {
     }
 }
 
-fn bundle(alloc: Global, rest: &str) -> Result<List<u8>, AllocError> {
-    let mut bytes = Vec::from_slice(alloc, META.as_bytes())?;
+/// What a run told and wrote.
+#[derive(Drop)]
+struct Ended {
+    number: u8,
+    line: Option<Text>,
+    written: Vec<u8>,
+    reported: bool,
+}
+
+impl Ended {
+    fn is(&self, number: u8, line: &str, written: &str) -> bool {
+        let told = match &self.line {
+            Some(told) => told.as_str(),
+            None => "",
+        };
+        self.number == number && told == line && self.written.as_slice() == written.as_bytes()
+    }
+}
+
+fn bundle(alloc: Global, front: &str, rest: &str) -> Result<List<u8>, AllocError> {
+    let mut bytes = Vec::from_slice(alloc, front.as_bytes())?;
     bytes.extend_from_slice(rest.as_bytes())?;
     Ok(List::from_vec(bytes))
 }
@@ -134,12 +270,13 @@ fn one_call(alloc: Global, number: u32) -> Result<List<u32>, AllocError> {
     Ok(List::from_vec(vec![in alloc; number]?))
 }
 
-/// Runs `apply` over memory, and gives the status and what was written.
-fn applied(
+/// Runs the program with these words over memory.
+fn ran(
     alloc: Global,
+    words: &[&str],
     bytes: List<u8>,
     setting: Setting,
-) -> Result<(Status, Vec<u8>), AllocError> {
+) -> Result<Ended, AllocError> {
     let mut source = SourceMem::new(
         bytes,
         setting.read_piece,
@@ -151,77 +288,107 @@ fn applied(
         setting.write_piece,
         one_call(alloc, setting.failing_write)?,
     )?;
-    let words = vec![in alloc; String::from_str(alloc, "apply")?]?;
-    let outcome = once(alloc, words.as_slice(), &mut source, &mut sink);
-    Ok((outcome.status, Vec::from_slice(alloc, sink.written())?))
+    let mut given = Vec::new(alloc);
+    for word in words {
+        given.push(String::from_str(alloc, word)?)?;
+    }
+    let outcome = once(alloc, given.as_slice(), &mut source, &mut sink);
+    Ok(Ended {
+        number: outcome.status.number(),
+        line: fault_line(alloc, &outcome.status)?,
+        written: Vec::from_slice(alloc, sink.written())?,
+        reported: outcome.report.is_some(),
+    })
 }
 
-/// Checks that `apply` writes this text.
-fn writes(rt: &impl Abort, alloc: Global, rest: &str, text: &str) -> Result<(), AllocError> {
-    let (status, written) = applied(alloc, bundle(alloc, rest)?, plain())?;
-    assert_eq!(rt; status, Status::Done);
-    assert!(rt; written.as_slice() == text.as_bytes());
-    Ok(())
+fn ran_plainly(alloc: Global, word: &str, front: &str, rest: &str) -> Result<Ended, AllocError> {
+    ran(alloc, &[word], bundle(alloc, front, rest)?, plain())
 }
 
-/// Checks that `apply` refuses these bytes and writes nothing.
-fn refuses(rt: &impl Abort, alloc: Global, bytes: &[u8], name: &str) -> Result<(), AllocError> {
-    let bytes = List::from_vec(Vec::from_slice(alloc, bytes)?);
-    let (status, written) = applied(alloc, bytes, plain())?;
-    assert_eq!(rt; status, Status::NotBuilt, "{name}");
-    assert!(rt; written.is_empty(), "{name}");
+#[test]
+fn apply_writes_the_report_of_the_least_match(rt: HostRuntime) -> Result<(), Fail> {
+    for (bundle, text) in [
+        (OPEN, OPENED),
+        (PAIR, MISSED),
+        (JOIN, JOINED),
+        (FOUR, FOUR_PAIRED),
+        (ROUND, ROUND_PAIRED),
+        (THREE, THREE_FOUND),
+        (TWO, TWO_MISSED),
+    ] {
+        let ended = ran_plainly(rt.alloc(), "apply", META, bundle)?;
+        assert!(rt; ended.is(0, "", text), "{bundle}");
+        assert!(rt; ended.reported);
+    }
     Ok(())
 }
 
 #[test]
-fn writes_the_report_of_the_least_match(rt: HostRuntime) -> Result<(), Fail> {
-    writes(&rt, rt.alloc(), OPEN, OPENED)?;
-    writes(&rt, rt.alloc(), PAIR, MISSED)?;
-    writes(&rt, rt.alloc(), JOIN, JOINED)?;
+fn apply_goes_by_conformance_and_fills_in_defaults(rt: HostRuntime) -> Result<(), Fail> {
+    let ended = ran_plainly(rt.alloc(), "apply", WIDE, "")?;
+    assert!(rt; ended.is(0, "", FILLED));
     Ok(())
 }
 
 #[test]
-fn goes_by_the_numbers_of_the_objects(rt: HostRuntime) -> Result<(), Fail> {
-    writes(&rt, rt.alloc(), FOUR, FOUR_PAIRED)?;
-    writes(&rt, rt.alloc(), ROUND, ROUND_PAIRED)?;
-    Ok(())
-}
-
-#[test]
-fn takes_an_object_once(rt: HostRuntime) -> Result<(), Fail> {
-    writes(&rt, rt.alloc(), THREE, THREE_FOUND)?;
-    writes(&rt, rt.alloc(), TWO, TWO_MISSED)?;
-    Ok(())
-}
-
-/// Checks that `apply` refuses a bundle with this rule text and this call.
-fn refuses_rule(rt: &impl Abort, alloc: Global, text: &str, call: &str) -> Result<(), AllocError> {
-    let rest = format!(in alloc;
-        "\"graph\": [], \"rules\": \"{text}\", \"sessions\": [[{{\"call\": \"{call}\"}}]]}}"
+fn apply_writes_the_graph_alone_where_nothing_is_asked(rt: HostRuntime) -> Result<(), Fail> {
+    let ended = ran_plainly(
+        rt.alloc(),
+        "apply",
+        "{\"journal\": [], \"sessions\": [], \"meta\": {\"classes\": [{\"name\": \"A\"}]}, \"graph\": [{\"name\": \"a\", \"class\": \"A\"}], \"rules\": \"rule r(in a: A) { delete node a: A; }\"}",
+        "",
     )?;
-    let bytes = bundle(alloc, rest.as_str())?;
-    refuses(rt, alloc, bytes.as_slice(), text)
+    let text = "{\"graph\":[{\"attrs\":{},\"class\":\"A\",\"name\":\"a\",\"refs\":{}}]}\n";
+    assert!(rt; ended.is(0, "", text));
+    assert!(rt; ended.reported);
+    Ok(())
 }
 
 #[test]
-fn refuses_another_rule_text(rt: HostRuntime) -> Result<(), Fail> {
+fn validate_writes_the_problems_of_the_graph(rt: HostRuntime) -> Result<(), Fail> {
+    for (bundle, text) in [
+        (WIDE, "{\"problems\":0}\n"),
+        (OWNED, OWNED_PROBLEMS),
+        (TWENTY, TWENTY_PROBLEMS),
+    ] {
+        let ended = ran_plainly(rt.alloc(), "validate", bundle, "")?;
+        assert!(rt; ended.is(0, "", text), "{bundle}");
+        assert!(rt; !ended.reported);
+    }
+    Ok(())
+}
+
+#[test]
+fn check_writes_the_canonical_text(rt: HostRuntime) -> Result<(), Fail> {
+    for (bundle, text) in [(LONE, LONE_PRINTED), (OWNED, "")] {
+        let ended = ran_plainly(rt.alloc(), "check", bundle, "")?;
+        assert!(rt; ended.is(0, "", text), "{bundle}");
+        assert!(rt; !ended.reported);
+    }
+    Ok(())
+}
+
+#[test]
+fn each_command_tells_each_refusal_and_writes_nothing(rt: HostRuntime) -> Result<(), Fail> {
+    for (number, line, bundle) in REFUSED {
+        for word in ["apply", "validate", "check"] {
+            let ended = ran_plainly(rt.alloc(), word, bundle, "")?;
+            assert!(rt; ended.is(number, line, ""), "{word} {bundle}");
+            assert!(rt; !ended.reported);
+        }
+    }
+    Ok(())
+}
+
+#[test]
+fn bytes_that_are_no_text_are_no_json(rt: HostRuntime) -> Result<(), Fail> {
     let alloc = rt.alloc();
-    let (status, _) = applied(
-        alloc,
-        bundle(
-            alloc,
-            "\"graph\": [], \"rules\": \"rule r() { }\", \"sessions\": [[{\"call\": \"r\"}]]}",
-        )?,
-        plain(),
-    )?;
-    assert_eq!(rt; status, Status::Done);
-    refuses_rule(&rt, alloc, "rule r() { }", "s")?;
-    refuses_rule(&rt, alloc, "rule r() { } ;", "r")?;
-    refuses_rule(&rt, alloc, "rule r() { } rule s() { }", "r")?;
-    refuses_rule(&rt, alloc, "rule r() { preserve node c: Bank; }", "r")?;
-    refuses_rule(&rt, alloc, "rule r() { delete node c: Client; }", "r")?;
-    refuses_rule(&rt, alloc, "", "r")?;
+    let nested = vec![in alloc; b'['; 4096]?;
+    for bytes in [b"\xff\xfe".as_slice(), nested.as_slice()] {
+        let bytes = List::from_vec(Vec::from_slice(alloc, bytes)?);
+        let ended = ran(alloc, &["validate"], bytes, plain())?;
+        assert!(rt; ended.is(5, "henshin: bad-json", ""));
+    }
     Ok(())
 }
 
@@ -236,13 +403,26 @@ fn reads_and_writes_in_whatever_pieces(rt: HostRuntime) -> Result<(), Fail> {
             write_piece: piece,
             failing_write: 0,
         };
-        let (status, written) = applied(alloc, bundle(alloc, OPEN)?, setting)?;
-        assert_eq!(rt; status, Status::Done);
-        assert!(rt;
-            written.as_slice() == OPENED.as_bytes(),
-            "pieces of {piece}"
-        );
+        let ended = ran(alloc, &["apply"], bundle(alloc, META, OPEN)?, setting)?;
+        assert!(rt; ended.is(0, "", OPENED), "pieces of {piece}");
     }
+    Ok(())
+}
+
+#[test]
+fn a_cut_bundle_in_pieces_is_no_json(rt: HostRuntime) -> Result<(), Fail> {
+    let alloc = rt.alloc();
+    let setting = Setting {
+        read_piece: 16,
+        failing_read: 0,
+        room: 4096,
+        write_piece: 16,
+        failing_write: 0,
+    };
+    let mut bytes = bundle(alloc, META, OPEN)?.into_vec();
+    let _ = bytes.pop();
+    let ended = ran(alloc, &["apply"], List::from_vec(bytes), setting)?;
+    assert!(rt; ended.is(5, "henshin: bad-json", ""));
     Ok(())
 }
 
@@ -258,9 +438,8 @@ fn ends_at_the_read_that_fails(rt: HostRuntime) -> Result<(), Fail> {
             write_piece: 16,
             failing_write: 0,
         };
-        let (status, written) = applied(alloc, bundle(alloc, OPEN)?, setting)?;
-        assert_eq!(rt; status, Status::ReadFault, "read {failing_read}");
-        assert!(rt; written.is_empty(), "read {failing_read}");
+        let ended = ran(alloc, &["apply"], bundle(alloc, META, OPEN)?, setting)?;
+        assert!(rt; ended.is(3, "henshin: read", ""), "read {failing_read}");
     }
     Ok(())
 }
@@ -276,14 +455,15 @@ fn ends_at_the_write_that_fails_behind_a_front_of_the_text(rt: HostRuntime) -> R
             write_piece: 16,
             failing_write,
         };
-        let (status, written) = applied(alloc, bundle(alloc, OPEN)?, setting)?;
-        assert_eq!(rt; status, Status::WriteFault, "write {failing_write}");
+        let ended = ran(alloc, &["apply"], bundle(alloc, META, OPEN)?, setting)?;
+        assert_eq!(rt; ended.number, 18, "write {failing_write}");
+        assert!(rt; ended.reported);
         assert_eq!(rt;
-            written.len(),
+            ended.written.len(),
             (failing_write as usize - 1) * 16,
             "write {failing_write}"
         );
-        assert!(rt; OPENED.as_bytes().starts_with(written.as_slice()));
+        assert!(rt; OPENED.as_bytes().starts_with(ended.written.as_slice()));
     }
     Ok(())
 }
@@ -298,56 +478,24 @@ fn tells_a_sink_without_room(rt: HostRuntime) -> Result<(), Fail> {
         write_piece: 1,
         failing_write: 0,
     };
-    let (status, written) = applied(alloc, bundle(alloc, OPEN)?, setting)?;
-    assert_eq!(rt; status, Status::WriteFault);
-    assert!(rt; written.is_empty());
-    Ok(())
-}
-
-/// Checks that these words are refused, and nothing is written.
-fn refuses_words(rt: &impl Abort, alloc: Global, words: &[&str]) -> Result<(), AllocError> {
-    let mut given = Vec::new(alloc);
-    for word in words {
-        given.push(String::from_str(alloc, word)?)?;
-    }
-    let mut source = SourceMem::new(bundle(alloc, OPEN)?, 16, List::new(alloc));
-    let mut sink = SinkMem::new(alloc, 16, 16, List::new(alloc))?;
-    let outcome = once(alloc, given.as_slice(), &mut source, &mut sink);
-    assert_eq!(rt; outcome.status, Status::Usage);
-    assert!(rt; sink.written().is_empty());
+    let ended = ran(alloc, &["validate"], bundle(alloc, OWNED, "")?, setting)?;
+    assert!(rt; ended.is(18, "henshin: write", ""));
     Ok(())
 }
 
 #[test]
 fn takes_no_other_words(rt: HostRuntime) -> Result<(), Fail> {
-    refuses_words(&rt, rt.alloc(), &[])?;
-    refuses_words(&rt, rt.alloc(), &["run"])?;
-    refuses_words(&rt, rt.alloc(), &["apply", "apply"])?;
-    Ok(())
-}
-
-#[test]
-fn refuses_what_is_no_bundle_of_the_form(rt: HostRuntime) -> Result<(), Fail> {
     let alloc = rt.alloc();
-    let whole = bundle(alloc, OPEN)?;
-    let whole = whole.as_slice();
-    assert_eq!(rt; whole.len() > 1, true);
-    refuses(&rt, alloc, b"", "nothing")?;
-    refuses(&rt, alloc, b"\xff\xfe", "no text")?;
-    refuses(
-        &rt,
-        alloc,
-        &whole[..whole.len() - 1],
-        "cut one byte before its end",
-    )?;
-    refuses(&rt, alloc, &whole[..whole.len() / 2], "cut in the middle")?;
-    refuses(
-        &rt,
-        alloc,
-        b"{\"meta\": {\"classes\": [{\"name\": \"Client\", \"attributes\": []}]}, \"graph\": [], \"rules\": \"rule r() { }\", \"sessions\": [[{\"call\": \"r\"}]]}",
-        "a class with attributes",
-    )?;
-    let nested = vec![in alloc; b'['; 4096]?;
-    refuses(&rt, alloc, nested.as_slice(), "lists in lists")?;
+    for words in [
+        [].as_slice(),
+        ["run"].as_slice(),
+        ["apply", "apply"].as_slice(),
+        ["check", "validate"].as_slice(),
+        ["Check"].as_slice(),
+        [""].as_slice(),
+    ] {
+        let ended = ran(alloc, words, bundle(alloc, META, OPEN)?, plain())?;
+        assert!(rt; ended.is(2, "henshin: usage", ""));
+    }
     Ok(())
 }

@@ -11,4 +11,4 @@ mod serial;
 
 pub use laws::one_serial_report;
 pub use report::{Out, Reply, Report, Word};
-pub use serial::run_serial;
+pub use serial::{run_nothing, run_serial};

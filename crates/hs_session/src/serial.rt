@@ -62,6 +62,17 @@ pub fn run_serial(
     })
 }
 
+/// The report of a run in which nothing is asked for: the graph as it was.
+pub fn run_nothing(alloc: Global, graph: ListGraph) -> Report
+    ensures { (rules : RuleSet) → arc_value graph.meta ≡ meta_of rules → IsSerialReport rules graph.graph [] result }
+{
+    Report {
+        journal: List::new(alloc),
+        replies: List::new(alloc),
+        graph,
+    }
+}
+
 pub fn rule_at(rules: &RuleSet, place: u16) -> &Rule
     requires { IsSome (slice_get rules.now.rules place) }
     ensures { slice_get rules.now.rules place ≡ Some result.now }

@@ -1,5 +1,4 @@
 use hs_expr::{Exact, List, Text, check_each, fault_if};
-use hs_json::{BundleFault, is_identifier, read_bundle};
 use std::test::Fail;
 
 #[test]
@@ -30,22 +29,4 @@ fn the_first_fault_of_a_list_is_told(rt: HostRuntime) {
     let below_four = |place: usize, number: &u32| fault_if(*number >= 4, place);
     assert_eq!(rt; check_each(&[1, 3], &below_four), Ok(()));
     assert_eq!(rt; check_each(&[1, 4, 9], &below_four), Err(1));
-}
-
-#[test]
-fn a_bundle_is_read(rt: HostRuntime) -> Result<(), Fail> {
-    let bytes =
-        b"{\"meta\": {\"classes\": [{\"name\": \"A\", \"references\": [{\"name\": \"r\", \"target\": \"A\"}]}]}, \"graph\": [{\"name\": \"x\", \"class\": \"A\", \"refs\": {\"r\": [\"x\", \"x\"]}}], \"rules\": \"rule q() { }\", \"sessions\": [[{\"call\": \"q\"}]]}";
-    let bundle = read_bundle(rt.alloc(), bytes).ok().ok_or("no bundle")?;
-    assert_eq!(rt; bundle.graph.graph.objects.len(), 1);
-    assert_eq!(rt; bundle.graph.graph.edges.len(), 2);
-    assert_eq!(rt; bundle.sessions.len(), 1);
-    assert!(rt; bundle.text.as_str() == "rule q() { }");
-    assert_eq!(rt;
-        read_bundle(rt.alloc(), b"{}").err(),
-        Some(BundleFault::NotBuilt)
-    );
-    assert!(rt; is_identifier("_a1"));
-    assert!(rt; !is_identifier("1a"));
-    Ok(())
 }

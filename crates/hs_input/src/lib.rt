@@ -1,0 +1,18 @@
+//! What the program is given: a bundle's bytes, read as a metamodel with a graph over it, a text of
+//! rules that is right, and what is asked of them.
+//!
+//! [`read_input`] gives all of it, or the first [`Refusal`]: the bundle's own fault, the first fault of
+//! its text, the first fault of its rules and units, or that it asks for what isn't built.
+//! `specs/Refusing.antt` says each refusal's cause, and [`Refusal::line`] is the line that tells it.
+#![tactic(auto)]
+
+mod lines;
+mod reading;
+mod refusal;
+#[cfg(test)]
+mod tests;
+mod work;
+
+pub use reading::{Input, read_input};
+pub use refusal::Refusal;
+pub use work::Work;

@@ -1,6 +1,0 @@
-use Rattle.std.proofs.Common.{◌≡◌, ◌++◌, drop}
-use Rattle.hs_json.specs.GraphMeaning as spec
-use Rattle.hs_json.proofs.graph.numbered_edges.Given as goal
-
-abbrev pub invariant-loop-i : goal.invariant-loop-i
-invariant-loop-i l = l.made ++ spec.edges_from l.i (drop l.i l.links) ≡ spec.edges_from 0 l.links

@@ -1,8 +1,0 @@
-use Rattle.std.proofs.Common.{◌≡◌, ◌++◌, ℕ, List, drop, map}
-use Rattle.std.specs.BTreeMap.{get_by_text}
-use Rattle.hs_json.specs.GraphMeaning as spec
-use Rattle.hs_json.proofs.links.add_targets.Given as goal
-
-abbrev pub invariant-loop-target : goal.invariant-loop-target
-invariant-loop-target l = (names : List (List ℕ)) → ((name : List ℕ) → get_by_text l.numbers name ≡ spec.place_of names name) →
-    l.links ++ map (spec.link_of names l.source l.reference) (drop l.target-index l.targets) ≡ l.fn.links ++ map (spec.link_of names l.source l.reference) l.targets

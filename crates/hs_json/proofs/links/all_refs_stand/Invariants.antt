@@ -1,7 +1,0 @@
-use Rattle.std.proofs.Common.{◌≡◌, drop}
-use Rattle.std.specs.List.{list_all}
-use Rattle.hs_json.specs.GraphMeaning as spec
-use Rattle.hs_json.proofs.links.all_refs_stand.Given as goal
-
-abbrev pub invariant-loop-i : goal.invariant-loop-i
-invariant-loop-i l = list_all (λ object. spec.refs_stand l.meta (spec.class_of l.meta object) object.refs) (drop l.i l.objects) ≡ list_all (λ object. spec.refs_stand l.meta (spec.class_of l.meta object) object.refs) l.objects
