@@ -1,0 +1,4 @@
+pub mod Stacks
+pub mod Paths
+pub mod Orders
+pub mod Steps

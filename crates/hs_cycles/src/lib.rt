@@ -1,0 +1,5 @@
+//! Which places of a graph lie on a cycle.
+#![tactic(auto)]
+
+mod searching;
+mod stack;
