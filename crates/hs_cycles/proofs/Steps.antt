@@ -1,18 +1,18 @@
 -- The steps of a search leave it as it has to be.
-use Rattle.std.proofs.Common.{ℕ, zero, suc, ◌+◌, ◌-◌, ◌<◌, ◌≤◌, ◌≢◌, ◌≡◌, ◌||◌, ◌⊎◌, inl, inr, List, [], ◌∷◌, ◌++◌, Bool, true, false, cond, drop, eqb, get_or, is_some, length, replicate, set, slice_get, Option, Some, None, refl, ap, sym, ◌∙◌, subst, arith}
+use Rattle.std.proofs.Common.{ℕ, zero, suc, ◌+◌, ◌-◌, ◌<◌, ◌≤◌, ◌≢◌, ◌≡◌, ◌||◌, ◌⊎◌, inl, inr, List, [], ◌∷◌, ◌++◌, Bool, true, false, cond, drop, eqb, get_or, is_some, length, replicate, set, slice_get, Option, Some, None, refl, ap, sym, ◌∙◌, subst, arith, rules, ltb}
 use Rattle.std.specs.List.{All, find}
 use Rattle.std.specs.Option.{option_or}
 use Rattle.std.proofs.Math.Bool.{or_assoc}
 use Rattle.std.proofs.lemmas.Bool.{eqb-true, eq-eqb, false≢true, or_left, or_right, or_parts}
 use Rattle.std.proofs.lemmas.List.{drop_more, get_or-set_other, get_or-set_same, length-set}
-use Rattle.std.proofs.lemmas.List.Elements.{All-nil, All-cons}
+use Rattle.std.proofs.lemmas.List.Elements.{All-nil, All-cons, All-head, All-tail}
 use Rattle.std.proofs.lemmas.List.Folds.{find-append}
 use Rattle.std.proofs.lemmas.Option.{get_or_from_slice_get, none-some, same_Some, slice_get_within}
 use Rattle.hs_types.specs.Lists.{has}
 use Rattle.hs_cycles.specs.Reaching.{IsOrderly, Path, first_to_reach, go_on, leads, reaches, stay}
-use Rattle.hs_cycles.specs.Underway.{AreFirst, Comes, IsUnderway, is_found, left, places_left, steps_left, work_left}
+use Rattle.hs_cycles.specs.Underway.{AreFirst, Comes, IsPath, IsUnderway, is_found, left, places_left, steps_left, work_left}
 use Rattle.hs_cycles.proofs.Orders.{orderly-more}
-use Rattle.hs_cycles.proofs.Paths.{reaches-path}
+use Rattle.hs_cycles.proofs.Paths.{reaches-itself, reaches-path, reaches-step, reaches-through}
 
 apart : (n k : ℕ) → eqb n k ≡ false → n ≢ k
 apart n k e = λ same. absurd (false≢true (sym e ∙ eq-eqb n k same))
@@ -231,3 +231,79 @@ less-steps [] tried t w e h = absurd (none-some w e)
 less-steps (row ∷ graph) [] t w e h = absurd (omega (arith, h))
 less-steps (row ∷ graph) (k ∷ tried) zero w e h = let within = slice_get_within row k w e in omega (arith, within)
 less-steps (row ∷ graph) (k ∷ tried) (suc t) w e h = let rest = less-steps graph tried t w e (omega (arith, h)) in omega (arith, rest)
+
+-- ---- a step from the end of the path
+
+pub found-within : (starts : List (Option ℕ)) (n : ℕ) → is_found starts n ≡ true → n < length starts
+found-within [] n e = absurd (false≢true e)
+found-within (s ∷ starts) zero e = omega arith
+found-within (s ∷ starts) (suc n) e = let rest = found-within starts n e in omega (arith, rest)
+
+pub end-within : (graph : List (List ℕ)) (tried : List ℕ) (starts : List (Option ℕ)) (path finished : List ℕ) (t : ℕ) (rest : List ℕ) → IsUnderway graph tried starts path finished → path ≡ t ∷ rest → t < length graph
+end-within graph tried starts path finished t rest u at =
+    let on : has path t ≡ true = ap (λ ps. has ps t) at ∙ or_left (eqb t t) (has rest t) (eq-eqb t t refl) in
+    let within = found-within starts t (u.found t ∙ or_left (has path t) (has finished t) on) in
+    let long = u.marks in
+    omega (arith, within, long)
+
+steps-on : (graph : List (List ℕ)) (t w : ℕ) (path : List ℕ) → leads graph t w ≡ true → All (λ p. reaches graph p t ≡ true) path → All (λ p. reaches graph p w ≡ true) path
+steps-on graph t w [] step a = All-nil (λ p. reaches graph p w ≡ true)
+steps-on graph t w (n ∷ path) step a =
+    All-cons (λ p. reaches graph p w ≡ true) n path (reaches-through graph n t w (All-head (λ p. reaches graph p t ≡ true) n path a) (reaches-step graph t w step)) (steps-on graph t w path step (All-tail (λ p. reaches graph p t ≡ true) n path a))
+
+-- What is on the path reaches that to which its end leads.
+pub goes-on : (graph : List (List ℕ)) (t w : ℕ) (path rest : List ℕ) → path ≡ t ∷ rest → IsPath graph path → leads graph t w ≡ true → All (λ p. reaches graph p w ≡ true) path
+goes-on graph t w path rest at goes step =
+    let whole : IsPath graph (t ∷ rest) = subst (IsPath graph) at goes in
+    subst (All (λ p. reaches graph p w ≡ true)) (sym at) (All-cons (λ p. reaches graph p w ≡ true) t rest (reaches-step graph t w step) (steps-on graph t w rest step whole.0))
+
+pub start-reaches : (graph : List (List ℕ)) (start t w : ℕ) (path rest : List ℕ) → path ≡ t ∷ rest → All (λ p. reaches graph start p ≡ true) path → leads graph t w ≡ true → reaches graph start w ≡ true
+start-reaches graph start t w path rest at reached step =
+    reaches-through graph start t w (All-head (λ p. reaches graph start p ≡ true) t rest (subst (All (λ p. reaches graph start p ≡ true)) at reached)) (reaches-step graph t w step)
+
+-- ---- the steps as the code makes them
+
+has-at : (ns : List ℕ) (i n : ℕ) → slice_get ns i ≡ Some n → has ns n ≡ true
+has-at [] i n e = absurd (none-some n e)
+has-at (m ∷ ns) zero n e = or_left (eqb n m) (has ns n) (eq-eqb n m (sym (same_Some m n e)))
+has-at (m ∷ ns) (suc i) n e = or_right (eqb n m) (has ns n) (has-at ns i n e)
+
+pub leads-at : (graph : List (List ℕ)) (t w c : ℕ) → slice_get (get_or graph t []) c ≡ Some w → leads graph t w ≡ true
+leads-at graph t w c e = has-at (get_or graph t []) c w e
+
+-- The state after a step to a place: what was tried is told by another list.
+pub advances-at : (graph : List (List ℕ)) (before tried : List ℕ) (starts : List (Option ℕ)) (path finished : List ℕ) (t w c : ℕ) → tried ≡ before → c ≡ get_or before t 0 →
+    slice_get (get_or graph t []) c ≡ Some w → t < length graph → is_found starts w ≡ true → IsUnderway graph tried starts path finished → IsUnderway graph (set tried t (c + 1)) starts path finished
+advances-at graph before tried starts path finished t w c same count at within there u =
+    let is : c ≡ get_or tried t 0 = count ∙ ap (λ ts. get_or ts t 0) (sym same) in
+    let long = u.counts in
+    subst (λ k. IsUnderway graph (set tried t (k + 1)) starts path finished) (sym is)
+    (advances graph tried starts path finished t w u (subst (λ k. slice_get (get_or graph t []) k ≡ Some w) is at) there (omega (arith, within, long)))
+
+pub less-at : (graph : List (List ℕ)) (before tried : List ℕ) (t w c : ℕ) → tried ≡ before → c ≡ get_or before t 0 → slice_get (get_or graph t []) c ≡ Some w → t < length tried →
+    steps_left graph (set tried t (c + 1)) + 1 ≡ steps_left graph tried
+less-at graph before tried t w c same count at within =
+    let is : c ≡ get_or tried t 0 = count ∙ ap (λ ts. get_or ts t 0) (sym same) in
+    ap (λ k. steps_left graph (set tried t (k + 1)) + 1) is ∙ less-steps graph tried t w (subst (λ k. slice_get (get_or graph t []) k ≡ Some w) is at) within
+
+pub read-at : (row : List ℕ) (i w : ℕ) → true ≡ ltb i (length row) → w ≡ get_or row i w → slice_get row i ≡ Some w
+read-at [] i w e h = grind (arith, rules)
+read-at (x ∷ row) zero w e h = ap Some (sym h)
+read-at (x ∷ row) (suc i) w e h = read-at row i w (e ∙ shift i (length row)) h
+  where
+    shift : (i n : ℕ) → ltb (suc i) (suc n) ≡ ltb i n
+    shift i n = grind (arith, rules)
+
+pub step-taken : (graph : List (List ℕ)) (t : ℕ) (row : List ℕ) (c w : ℕ) → row ≡ get_or graph t [] → true ≡ ltb c (length row) → w ≡ get_or row c w → slice_get (get_or graph t []) c ≡ Some w
+step-taken graph t row c w same within at = subst (λ ns. slice_get ns c ≡ Some w) same (read-at row c w within at)
+
+pub step-leads : (graph : List (List ℕ)) (t : ℕ) (row : List ℕ) (c w : ℕ) → row ≡ get_or graph t [] → true ≡ ltb c (length row) → w ≡ get_or row c w → leads graph t w ≡ true
+step-leads graph t row c w same within at = leads-at graph t w c (step-taken graph t row c w same within at)
+
+-- The path without its end.
+pub comes-back : (graph : List (List ℕ)) (before : List ℕ) (start : ℕ) (starts starts2 : List (Option ℕ)) (path path2 : List ℕ) (t : ℕ) (rest : List ℕ) → path ≡ t ∷ rest → path2 ≡ rest → starts2 ≡ starts → Comes graph before start starts path → Comes graph before start starts2 path2
+comes-back graph before start starts starts2 path path2 t rest at back same c =
+    let whole : Comes graph before start starts (t ∷ rest) = subst (Comes graph before start starts) at c in
+    let less : Comes graph before start starts rest = record { own = c.own; other = c.other; reached = All-tail (λ p. reaches graph start p ≡ true) t rest whole.reached } in
+    let here : Comes graph before start starts path2 = subst (Comes graph before start starts) (sym back) less in
+    subst (λ ss. Comes graph before start ss path2) (sym same) here

@@ -82,11 +82,12 @@ fn begin(start: usize, search: &mut Search) -> Result<(), AllocError>
         → spec.ComesFrom graph before start search.new) }
     ensures found { OnOk result (spec.is_found search.new.starts.items start ≡ true) }
 {
-    if is_found(search.starts.as_slice(), start) {
+    if is_found(search, start) {
         return Ok(());
     }
     search.starts[start] = Some(start);
-    search.path.push(start)
+    search.path.push(start)?;
+    Ok(())
 }
 
 /// Tries the next step of the place where the search stands, or finishes it where all were tried.
@@ -105,14 +106,35 @@ fn go_on(
     ensures kept { OnOk result (spec.is_found search.old.starts.items start ≡ true → spec.is_found search.new.starts.items start ≡ true) }
     ensures less { OnOk result (spec.work graph.now search.new < spec.work graph.now search.old) }
 {
-    let count = search.tried[place];
-    match graph[place].as_slice().get(count) {
+    let count = tried_steps(search, place);
+    match steps_of(graph, place).get(count) {
         Some(to) => {
             visit(start, *to, search)?;
             search.tried[place] = count + 1;
             Ok(())
         }
-        None => leave(search),
+        None => {
+            leave(search)?;
+            Ok(())
+        }
+    }
+}
+
+fn tried_steps(search: &Search, place: usize) -> usize
+    ensures { result ≡ get_or search.now.tried.items place 0 }
+{
+    match search.tried.as_slice().get(place) {
+        Some(count) => *count,
+        None => 0,
+    }
+}
+
+fn steps_of(graph: &[List<usize>], place: usize) -> &[usize]
+    ensures { result.now ≡ get_or graph.now place [] }
+{
+    match graph.get(place) {
+        Some(steps) => steps.as_slice(),
+        None => &[],
     }
 }
 
@@ -128,11 +150,12 @@ fn visit(start: usize, to: usize, search: &mut Search) -> Result<(), AllocError>
     ensures kept { OnOk result ((n : ℕ) → spec.is_found search.old.starts.items n ≡ true → spec.is_found search.new.starts.items n ≡ true) }
     ensures no_more { OnOk result ((graph : List (List ℕ)) → spec.work graph search.new ≤ spec.work graph search.old) }
 {
-    if is_found(search.starts.as_slice(), to) {
+    if is_found(search, to) {
         return Ok(());
     }
     search.starts[to] = Some(start);
-    search.path.push(to)
+    search.path.push(to)?;
+    Ok(())
 }
 
 /// Finishes the place where the search stands.
@@ -148,10 +171,10 @@ fn leave(search: &mut Search) -> Result<(), AllocError>
     }
 }
 
-fn is_found(starts: &[Option<usize>], place: usize) -> bool
-    ensures { result ≡ spec.is_found starts.now place }
+fn is_found(search: &Search, place: usize) -> bool
+    ensures { result ≡ spec.is_found search.now.starts.items place }
 {
-    match starts.get(place) {
+    match search.starts.as_slice().get(place) {
         Some(start) => start.is_some(),
         None => false,
     }
