@@ -2,3 +2,6 @@ pub mod Stacks
 pub mod Paths
 pub mod Orders
 pub mod Steps
+pub mod Ranges
+pub mod Turns
+pub mod Marks

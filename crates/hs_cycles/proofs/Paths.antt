@@ -20,15 +20,15 @@ extends-leads [] n k h = absurd h
 extends-leads (row ∷ graph) zero k h = h
 extends-leads (row ∷ graph) (suc n) k h = extends-leads graph n k h
 
-below-path : (graph : List (List ℕ)) (n k : ℕ) → IsBelow graph n k → Path graph n k
+pub below-path : (graph : List (List ℕ)) (n k : ℕ) → IsBelow graph n k → Path graph n k
 below-path graph n k (direct _ _ step) = go_on n k k (extends-leads graph n k step) (stay k)
 below-path graph n l (by_way_of _ k _ step rest) = go_on n k l (extends-leads graph n k step) (below-path graph k l rest)
 
-step-below : (graph : List (List ℕ)) (n k l : ℕ) → leads graph n k ≡ true → (k ≡ l) ⊎ IsBelow graph k l → IsBelow graph n l
+pub step-below : (graph : List (List ℕ)) (n k l : ℕ) → leads graph n k ≡ true → (k ≡ l) ⊎ IsBelow graph k l → IsBelow graph n l
 step-below graph n k l h (inl e) = direct n l (subst (λ j. Extends graph n j) e (leads-extends graph n k h))
 step-below graph n k l h (inr b) = by_way_of n k l (leads-extends graph n k h) b
 
-path-below : (graph : List (List ℕ)) (n k : ℕ) → Path graph n k → (n ≡ k) ⊎ IsBelow graph n k
+pub path-below : (graph : List (List ℕ)) (n k : ℕ) → Path graph n k → (n ≡ k) ⊎ IsBelow graph n k
 path-below graph n _ (stay _) = inl refl
 path-below graph n l (go_on _ k _ step rest) = inr (step-below graph n k l step (path-below graph k l rest))
 
@@ -48,7 +48,7 @@ path-reaches graph n k p = go (path-below graph n k p)
     go (inl e) = or_left (eqb n k) (is_below graph n k) (eq-eqb n k e)
     go (inr b) = or_right (eqb n k) (is_below graph n k) ((says_below graph n k).1 b)
 
-through : (graph : List (List ℕ)) (n k l : ℕ) → Path graph n k → Path graph k l → Path graph n l
+pub through : (graph : List (List ℕ)) (n k l : ℕ) → Path graph n k → Path graph k l → Path graph n l
 through graph n _ l (stay _) q = q
 through graph n k l (go_on _ j _ step rest) q = go_on n j l step (through graph j k l rest q)
 

@@ -14,7 +14,7 @@ use Rattle.hs_cycles.specs.Underway.{AreFirst, Comes, IsPath, IsUnderway, is_fou
 use Rattle.hs_cycles.proofs.Orders.{orderly-more}
 use Rattle.hs_cycles.proofs.Paths.{reaches-itself, reaches-path, reaches-step, reaches-through}
 
-apart : (n k : ℕ) → eqb n k ≡ false → n ≢ k
+pub apart : (n k : ℕ) → eqb n k ≡ false → n ≢ k
 apart n k e = λ same. absurd (false≢true (sym e ∙ eq-eqb n k same))
 
 or_false : (a b : Bool) → b ≡ false → (a || b) ≡ true → a ≡ true

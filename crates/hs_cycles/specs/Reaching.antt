@@ -1,6 +1,6 @@
 -- Which places of a graph reach which. A graph gives of each place the places to which it leads by one step.
-use Rattle.std.specs.Prelude.{ℕ, ◌≡◌, ◌<◌, ◌↔◌, List, [], Bool, true, eqb, ◌||◌, get_or, length, Option, Some}
-use Rattle.std.specs.List.{find}
+use Rattle.std.specs.Prelude.{ℕ, ◌≡◌, ◌<◌, ◌↔◌, List, [], Bool, true, eqb, ◌||◌, get_or, length, Option, Some, None, false}
+use Rattle.std.specs.List.{find, list_any}
 use Rattle.hs_types.specs.Lists.{has}
 use Rattle.hs_types.specs.Supertypes.{is_below}
 
@@ -36,3 +36,18 @@ IsOrderly graph order = (n k : ℕ) → has order n ≡ true → first_reached g
 -- The second graph has the steps of the first, turned round.
 abbrev pub AreTurned : List (List ℕ) → List (List ℕ) → Type 0
 AreTurned graph turned = (n k : ℕ) → leads turned k n ≡ leads graph n k
+
+-- Two places have the same mark exactly where each reaches the other.
+abbrev pub AreComponents : List (List ℕ) → List (Option ℕ) → Type 0
+AreComponents graph marks =
+    (n k : ℕ) → n < length graph → k < length graph → (get_or marks n None ≡ get_or marks k None) ↔ ((reaches graph n k ≡ true) × (reaches graph k n ≡ true))
+
+abbrev pub same_mark : Option ℕ → Option ℕ → Bool
+same_mark None None = true
+same_mark None (Some k) = false
+same_mark (Some n) None = false
+same_mark (Some n) (Some k) = eqb n k
+
+-- A step leads from place n to a place with the same mark.
+abbrev pub leads_back : List (List ℕ) → List (Option ℕ) → ℕ → Bool
+leads_back graph marks n = list_any (λ k. same_mark (get_or marks k None) (get_or marks n None)) (get_or graph n [])

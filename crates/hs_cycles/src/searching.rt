@@ -33,6 +33,7 @@ pub fn searched(
     requires within { All (λ n. n < length graph.now) from.now }
     ensures first { IfOk result (λ search. spec.AreFirst graph.now from.now search.starts.items) }
     ensures found { IfOk result (λ search. (n : ℕ) → spec.is_found search.starts.items n ≡ has search.finished n) }
+    ensures inside { IfOk result (λ search. All (λ n. n < length graph.now) search.finished) }
     ensures orderly { IfOk result (λ search. IsOrderly graph.now search.finished) }
 {
     let mut search = nothing_found(alloc, graph.len())?;
@@ -129,7 +130,8 @@ fn tried_steps(search: &Search, place: usize) -> usize
     }
 }
 
-fn steps_of(graph: &[List<usize>], place: usize) -> &[usize]
+/// The places to which a place leads.
+pub fn steps_of(graph: &[List<usize>], place: usize) -> &[usize]
     ensures { result.now ≡ get_or graph.now place [] }
 {
     match graph.get(place) {

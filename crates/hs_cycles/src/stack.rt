@@ -55,10 +55,12 @@ impl<T> Stack<T> {
         self.inner.as_slice().last().copied()
     }
 
-    /// The items from the bottom to the top.
-    pub fn from_bottom(&self) -> &[T]
-        ensures { result.now ≡ reverse self.now }
+    /// The items from the top on, without taking memory.
+    pub fn into_vec(self) -> Vec<T>
+        ensures { result.items ≡ self }
     {
-        self.inner.as_slice()
+        let Stack { mut inner } = self;
+        inner.reverse();
+        inner
     }
 }
