@@ -5,3 +5,4 @@ pub mod Steps
 pub mod Ranges
 pub mod Turns
 pub mod Marks
+pub mod Wholes

@@ -100,9 +100,6 @@ advances graph tried starts path finished t w u at there within = record {
   orderly = u.orderly;
 }
   where
-    row : List ℕ
-    row = get_or graph t []
-
     opened : left graph tried t ≡ w ∷ drop (get_or tried t 0 + 1) (get_or graph t [])
     opened =
         drop_more (get_or graph t []) (get_or tried t 0) w (slice_get_within (get_or graph t []) (get_or tried t 0) w at)
@@ -133,35 +130,6 @@ advances graph tried starts path finished t w u at there within = record {
         let full : w ∷ drop (get_or tried t 0 + 1) (get_or graph t []) ≡ [] = sym (ap (left graph tried) (eqb-true n t e) ∙ opened) ∙ h in
         absurd (let more = ap length full in omega (arith, more))
     done_then n false e h = elsewhere n e ∙ h
-
--- ---- a place is finished
-
-pub finishes : (graph : List (List ℕ)) (tried : List ℕ) (starts : List (Option ℕ)) (path finished : List ℕ) (t : ℕ) → IsUnderway graph tried starts (t ∷ path) finished →
-    left graph tried t ≡ [] → IsUnderway graph tried starts path (t ∷ finished)
-finishes graph tried starts path finished t u none = record {
-  counts = u.counts;
-  marks = u.marks;
-  steps = u.steps;
-  done = λ n h. done_then n (eqb n t) refl h;
-  found = λ n. u.found n ∙ turn (eqb n t) (has path n) (has finished n);
-  goes = u.goes.1;
-  orderly = u.orderly;
-}
-  where
-    done_then : (n : ℕ) (b : Bool) → eqb n t ≡ b → (b || has finished n) ≡ true → left graph tried n ≡ []
-    done_then n true e h = ap (left graph tried) (eqb-true n t e) ∙ none
-    done_then n false e h = u.done n h
-
-    turn : (a b c : Bool) → ((a || b) || c) ≡ (b || (a || c))
-    turn true true c = refl
-    turn true false c = refl
-    turn false b c = refl
-
-pub nothing-left : (row : List ℕ) (c : ℕ) → slice_get row c ≡ None → drop c row ≡ []
-nothing-left [] zero e = refl
-nothing-left [] (suc c) e = refl
-nothing-left (x ∷ row) zero e = absurd (none-some x (sym e))
-nothing-left (x ∷ row) (suc c) e = nothing-left row c e
 
 -- ---- the beginning and the end
 
@@ -213,9 +181,6 @@ comes-ends graph before start tried starts finished u c begun n = go (get_or sta
         not_reached e (reaches graph start n) refl
         ∙ sym (find-append (λ q. reaches graph q n) before (start ∷ []) ∙ ap (λ o. option_or o (cond (reaches graph start n) (Some start) None)) (c.other n e))
     go (Some s) e = sym (c.own n s e)
-
-pub ends-orderly : (graph : List (List ℕ)) (tried : List ℕ) (starts : List (Option ℕ)) (finished : List ℕ) → IsUnderway graph tried starts [] finished → IsOrderly graph finished
-ends-orderly graph tried starts finished u = λ n k h e. u.orderly n k (u.found n ∙ h) e
 
 -- ---- less is left
 

@@ -32,9 +32,6 @@ turned-whole graph turned are long n k h = let within = source-within graph k n 
 pub step-added : (graph : List (List ℕ)) (place to n k : ℕ) → place < length graph → leads (set graph place (get_or graph place [] ++ to ∷ [])) n k ≡ (leads graph n k || (eqb k to && eqb n place))
 step-added graph place to n k within = go (eqb n place) refl
   where
-    row : List ℕ
-    row = get_or graph place [] ++ to ∷ []
-
     ends : (a b : Bool) → (a || (b || false)) ≡ (a || (b && true))
     ends true b = refl
     ends false true = refl
