@@ -1,12 +1,12 @@
 -- Marks that places have in common which reach each other.
-use Rattle.std.proofs.Common.{ℕ, zero, suc, ◌+◌, ◌<◌, ◌≤◌, ◌≡◌, ◌↔◌, ◌||◌, List, [], ◌∷◌, Bool, true, false, eqb, get_or, is_some, length, map, ltb, Option, Some, None, refl, ap, sym, ◌∙◌, subst, arith, rules}
-use Rattle.std.specs.List.{find, list_any, range_with_len}
+use Rattle.std.proofs.Common.{ℕ, ◌+◌, ◌<◌, ◌≤◌, ◌≡◌, List, [], Bool, true, false, get_or, is_some, length, map, ltb, Option, Some, None, refl, ap, sym, ◌∙◌, arith, rules}
+use Rattle.std.specs.List.{range_with_len}
 use Rattle.std.proofs.lemmas.Bool.{eqb-true, eq-eqb, false≢true}
 use Rattle.std.proofs.lemmas.List.FromFn.{get_or-map-range_with_len, length-map-range_with_len}
 use Rattle.hs_types.specs.Lists.{has}
 use Rattle.hs_types.specs.Supertypes.{IsBelow, by_way_of, direct, is_below}
 use Rattle.hs_types.proofs.Below.{says_below}
-use Rattle.hs_cycles.specs.Reaching.{AreComponents, AreTurned, IsOrderly, IsWhole, Path, first_reached, go_on, leads, leads_back, reaches, same_mark, stay}
+use Rattle.hs_cycles.specs.Reaching.{AreComponents, AreTurned, IsOrderly, IsWhole, first_reached, leads, leads_back, reaches, same_mark}
 use Rattle.hs_cycles.specs.Underway.{AreFirst, is_found}
 use Rattle.hs_cycles.proofs.Paths.{any-of, below-path, extends-leads, first-passes, first-same, first-there, one-of, path-below, path-reaches, reaches-itself, reaches-path, reaches-step, reaches-through, same_tests, step-below}
 use Rattle.hs_cycles.proofs.Ranges.{nothing-past, range-has}

@@ -1,13 +1,13 @@
 -- The order in which places are finished.
-use Rattle.std.proofs.Common.{ℕ, zero, suc, ◌≡◌, ◌||◌, ◌⊎◌, inl, inr, List, [], ◌∷◌, Bool, true, false, cond, eqb, length, Option, Some, None, refl, ap, sym, ◌∙◌, subst}
+use Rattle.std.proofs.Common.{ℕ, ◌≡◌, ◌||◌, List, [], ◌∷◌, Bool, true, false, cond, eqb, Some, refl, ap, sym, ◌∙◌, subst}
 use Rattle.std.specs.List.{All, find, list_any}
 use Rattle.std.proofs.lemmas.Bool.{eqb-true, eq-eqb, false≢true, or_left, or_right, or_parts}
-use Rattle.std.proofs.lemmas.List.Elements.{All-nil, All-cons, All-head, All-tail}
-use Rattle.std.proofs.lemmas.Option.{none-some, same_Some}
+use Rattle.std.proofs.lemmas.List.Elements.{All-head, All-tail}
+use Rattle.std.proofs.lemmas.Option.{same_Some}
 use Rattle.hs_types.specs.Lists.{has}
 use Rattle.hs_cycles.specs.Reaching.{Path, go_on, leads, reaches, stay}
-use Rattle.hs_cycles.specs.Underway.{IsPath, onto}
-use Rattle.hs_cycles.proofs.Paths.{any-of, first-among, first-there, one-of, path-reaches, reaches-itself, reaches-path, reaches-step, reaches-through}
+use Rattle.hs_cycles.specs.Underway.{onto}
+use Rattle.hs_cycles.proofs.Paths.{any-of, path-reaches, reaches-itself, reaches-path}
 
 pub All-has : (P : ℕ → Type 0) (ns : List ℕ) (n : ℕ) → All P ns → has ns n ≡ true → P n
 All-has P [] n a h = absurd (false≢true h)

@@ -1,6 +1,6 @@
 -- The steps of a search leave it as it has to be.
-use Rattle.std.proofs.Common.{ℕ, zero, suc, ◌+◌, ◌-◌, ◌<◌, ◌≤◌, ◌≢◌, ◌≡◌, ◌||◌, ◌⊎◌, inl, inr, List, [], ◌∷◌, ◌++◌, Bool, true, false, cond, drop, eqb, get_or, is_some, length, replicate, set, slice_get, Option, Some, None, refl, ap, sym, ◌∙◌, subst, arith, rules, ltb}
-use Rattle.std.specs.List.{All, find}
+use Rattle.std.proofs.Common.{ℕ, zero, suc, ◌+◌, ◌<◌, ◌≢◌, ◌≡◌, ◌||◌, List, [], ◌∷◌, ◌++◌, Bool, true, false, cond, drop, eqb, get_or, is_some, length, replicate, set, slice_get, Option, Some, None, refl, ap, sym, ◌∙◌, subst, arith, rules, ltb}
+use Rattle.std.specs.List.{All}
 use Rattle.std.specs.Option.{option_or}
 use Rattle.std.proofs.Math.Bool.{or_assoc}
 use Rattle.std.proofs.lemmas.Bool.{eqb-true, eq-eqb, false≢true, or_left, or_right, or_parts}
@@ -9,10 +9,10 @@ use Rattle.std.proofs.lemmas.List.Elements.{All-nil, All-cons, All-head, All-tai
 use Rattle.std.proofs.lemmas.List.Folds.{find-append}
 use Rattle.std.proofs.lemmas.Option.{get_or_from_slice_get, none-some, same_Some, slice_get_within}
 use Rattle.hs_types.specs.Lists.{has}
-use Rattle.hs_cycles.specs.Reaching.{IsOrderly, Path, first_to_reach, go_on, leads, reaches, stay}
-use Rattle.hs_cycles.specs.Underway.{AreFirst, Comes, IsPath, IsUnderway, is_found, left, places_left, steps_left, work_left}
+use Rattle.hs_cycles.specs.Reaching.{Path, first_to_reach, go_on, leads, reaches, stay}
+use Rattle.hs_cycles.specs.Underway.{AreFirst, Comes, IsPath, IsUnderway, is_found, left, places_left, steps_left}
 use Rattle.hs_cycles.proofs.Orders.{orderly-more}
-use Rattle.hs_cycles.proofs.Paths.{reaches-itself, reaches-path, reaches-step, reaches-through}
+use Rattle.hs_cycles.proofs.Paths.{reaches-path, reaches-step, reaches-through}
 
 pub apart : (n k : ℕ) → eqb n k ≡ false → n ≢ k
 apart n k e = λ same. absurd (false≢true (sym e ∙ eq-eqb n k same))
@@ -46,7 +46,7 @@ enters graph tried starts path finished w s u to_w new within = record {
   found = found_then;
   goes = (to_w, u.goes);
   orderly = λ n k f e. orderly-more graph path finished w (closed graph tried starts path finished u) (λ i j h. u.orderly i j (u.found i ∙ h)) to_w
-  (or_parts (has path w) (has finished w) (sym (u.found w) ∙ new)).1 n k (sym (found-set starts w s n within ∙ ap (λ b. eqb n w || b) (u.found n)) ∙ f) e;
+      (or_parts (has path w) (has finished w) (sym (u.found w) ∙ new)).1 n k (sym (found-set starts w s n within ∙ ap (λ b. eqb n w || b) (u.found n)) ∙ f) e;
 }
   where
     more : (k : ℕ) (b : Bool) → (is_found starts k || b) ≡ true → (is_found (set starts w (Some s)) k || b) ≡ true

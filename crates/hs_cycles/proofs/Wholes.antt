@@ -1,5 +1,5 @@
 -- Whether each step leads to a place, as a test.
-use Rattle.std.proofs.Common.{ℕ, zero, suc, ◌<◌, ◌≡◌, ◌↔◌, ◌&&◌, ◌||◌, List, [], ◌∷◌, Bool, true, false, IsTrue, eqb, get_or, length, nat_lt, refl, ap, sym, ◌∙◌, subst, arith, rules}
+use Rattle.std.proofs.Common.{ℕ, zero, suc, ◌<◌, ◌≡◌, ◌↔◌, ◌&&◌, ◌||◌, List, [], ◌∷◌, Bool, true, false, eqb, length, nat_lt, refl, sym, subst, arith, rules}
 use Rattle.std.specs.List.{list_all}
 use Rattle.std.proofs.lemmas.Bool.{and_parts, eqb-true, eq-eqb, false≢true, or_left, or_right}
 use Rattle.hs_types.specs.Lists.{has}

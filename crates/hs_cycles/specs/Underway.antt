@@ -1,5 +1,5 @@
 -- What is known of a search in depth while it goes on.
-use Rattle.std.specs.Prelude.{ℕ, zero, suc, ◌+◌, ◌-◌, ◌≡◌, ◌||◌, List, [], ◌∷◌, ◌++◌, Bool, true, drop, get_or, is_some, length, Option, Some, None}
+use Rattle.std.specs.Prelude.{ℕ, ◌+◌, ◌-◌, ◌≡◌, ◌||◌, List, [], ◌∷◌, ◌++◌, Bool, true, drop, get_or, is_some, length, Option, Some, None}
 use Rattle.std.specs.List.{All}
 use Rattle.hs_types.specs.Lists.{has}
 use Rattle.hs_cycles.specs.declared.searching.Search.{Search}

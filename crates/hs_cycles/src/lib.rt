@@ -4,8 +4,8 @@
 //! that a step leads to has to be a place: [`is_whole`] says whether it is.
 #![tactic(auto)]
 
-mod marking;
 mod cycles;
+mod marking;
 mod searching;
 mod stack;
 #[cfg(test)]

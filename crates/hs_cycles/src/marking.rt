@@ -12,10 +12,7 @@ use std::alloc::{AllocError, Global};
 /// For each place a mark, which two places have in common exactly where each reaches the other: the
 /// first place of an order that it reaches, where the order is the one in which a search finishes
 /// the places, the last first.
-pub fn components(
-    alloc: Global,
-    graph: &[List<usize>],
-) -> Result<Vec<Option<usize>>, AllocError>
+pub fn components(alloc: Global, graph: &[List<usize>]) -> Result<Vec<Option<usize>>, AllocError>
     requires { IsWhole graph.now }
     ensures { IfOk result (λ marks. AreComponents graph.now marks.items) }
 {

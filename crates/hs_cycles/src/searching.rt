@@ -24,11 +24,7 @@ pub struct Search {
 }
 
 /// The graph searched from these places, one after the other.
-pub fn searched(
-    alloc: Global,
-    graph: &[List<usize>],
-    from: &[usize],
-) -> Result<Search, AllocError>
+pub fn searched(alloc: Global, graph: &[List<usize>], from: &[usize]) -> Result<Search, AllocError>
     requires whole { IsWhole graph.now }
     requires within { All (λ n. n < length graph.now) from.now }
     ensures first { IfOk result (λ search. spec.AreFirst graph.now from.now search.starts.items) }

@@ -16,7 +16,9 @@ pub fn is_whole(graph: &[List<usize>]) -> bool
 fn all_within(graph: &[List<usize>], count: usize) -> bool
     ensures { result ≡ list_all (list_all (λ to. nat_lt to count)) graph.now }
 {
-    graph.iter().all(|steps| are_within(steps.as_slice(), count))
+    graph
+        .iter()
+        .all(|steps| are_within(steps.as_slice(), count))
 }
 
 fn are_within(steps: &[usize], count: usize) -> bool

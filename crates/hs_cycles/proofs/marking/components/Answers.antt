@@ -1,5 +1,5 @@
-use Rattle.std.proofs.Common.{ℕ, List, ◌+◌, ap, arith, length, refl, sym, ◌≡◌, ◌∙◌, ◌<◌, ◌≤◌, subst}
-use Rattle.std.specs.List.{All, range_with_len}
+use Rattle.std.proofs.Common.{◌+◌, arith, length, sym, ◌∙◌, ◌<◌, ◌≤◌, subst}
+use Rattle.std.specs.List.{All}
 use Rattle.hs_cycles.specs.Underway.{AreFirst}
 use Rattle.hs_cycles.proofs.Marks.{all-finished, components-are}
 use Rattle.hs_cycles.proofs.Ranges.{range-below}

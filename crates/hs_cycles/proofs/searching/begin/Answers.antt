@@ -1,4 +1,4 @@
-use Rattle.std.proofs.Common.{ℕ, true, set, ◌≡◌, ◌∷◌, sym, ◌∙◌, subst, Some}
+use Rattle.std.proofs.Common.{true, set, ◌≡◌, sym, ◌∙◌, subst, Some}
 use Rattle.std.specs.List.{All}
 use Rattle.std.proofs.lemmas.List.Elements.{All-nil}
 use Rattle.hs_cycles.specs.Reaching.{reaches}

@@ -1,8 +1,4 @@
-use Rattle.std.proofs.Common.{ℕ, List, [], true, set, ◌≡◌, ◌+◌, ◌≤◌, ◌<◌, ◌∷◌, ◌∙◌, ap, length, get_or, sym, subst, Some, slice_get, arith}
-use Rattle.std.specs.List.{All}
-use Rattle.std.proofs.lemmas.List.Elements.{All-tail}
-use Rattle.hs_cycles.specs.Reaching.{leads, reaches}
-use Rattle.hs_cycles.specs.Underway.{Comes, IsUnderway, work_left}
+use Rattle.std.proofs.Common.{ap, length, arith}
 use Rattle.hs_cycles.proofs.Steps.{advances-at, comes-back, end-within, less-at, step-leads, step-taken}
 use Rattle.hs_cycles.proofs.searching.go_on.Goals as goal
 
@@ -45,9 +41,9 @@ returns-in_ok-visit-in-Some-clause-less c =
     let long = c.requires.goes.counts in
     let same = ap length c.in_ok-visit-in-Some.ensures.tried in
     let fewer = less-at c.args.graph.now search.tried.items c.visit.new.search.tried.items c.args.place c.in-Some.to.now c.tried_steps-count.result
-        c.in_ok-visit-in-Some.ensures.tried c.tried_steps-count.ensures
-        (step-taken c.args.graph.now c.args.place c.steps_of.result.now c.tried_steps-count.result c.in-Some.to.now c.steps_of.ensures c.in-Some.ensures.lookup.0 c.in-Some.ensures.lookup.1)
-        (omega (arith, within, long, same)) in
+    c.in_ok-visit-in-Some.ensures.tried c.tried_steps-count.ensures
+    (step-taken c.args.graph.now c.args.place c.steps_of.result.now c.tried_steps-count.result c.in-Some.to.now c.steps_of.ensures c.in-Some.ensures.lookup.0 c.in-Some.ensures.lookup.1)
+    (omega (arith, within, long, same)) in
     let no_more = c.in_ok-visit-in-Some.ensures.no_more c.args.graph.now in
     omega (arith, fewer, no_more)
 

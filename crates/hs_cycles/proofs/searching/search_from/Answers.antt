@@ -1,4 +1,4 @@
-use Rattle.std.proofs.Common.{ℕ, [], ◌≡◌, sym, subst}
+use Rattle.std.proofs.Common.{subst}
 use Rattle.hs_cycles.specs.Underway.{Comes, IsUnderway}
 use Rattle.hs_cycles.proofs.Steps.{comes-ends}
 use Rattle.hs_cycles.proofs.searching.search_from.Goals as goal

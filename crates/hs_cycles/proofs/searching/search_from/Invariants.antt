@@ -1,4 +1,4 @@
-use Rattle.std.proofs.Common.{ℕ, List, true, ◌≡◌, length}
+use Rattle.std.proofs.Common.{ℕ, List, true, ◌≡◌}
 use Rattle.hs_cycles.specs.Underway as spec
 use Rattle.hs_cycles.proofs.searching.search_from.Given as goal
 

@@ -1,6 +1,5 @@
-use Rattle.std.proofs.Common.{ℕ, List, [], ◌≡◌, ◌≤◌, ◌∙◌, ◌++◌, ◌∷◌, ap, length, get_or, refl, sym, subst, take, arith}
+use Rattle.std.proofs.Common.{refl, sym, subst, take}
 use Rattle.std.proofs.lemmas.List.{take_more, take_all}
-use Rattle.hs_cycles.specs.Reaching.{first_to_reach}
 use Rattle.hs_cycles.specs.Underway.{AreFirst}
 use Rattle.hs_cycles.proofs.Ranges.{finished-within}
 use Rattle.hs_cycles.proofs.searching.searched.Goals as goal
@@ -17,7 +16,7 @@ loop-start-preserved c = record {
   goes = c.in_ok-search_from.ensures.goes;
   at_end = c.in_ok-search_from.ensures.at_end;
   first = subst (λ from. AreFirst c.args.graph.now from c.search_from.new.search.starts.items) (sym (take_more c.args.from.now c.loop-start.start-index 0 c.loop-start-test.true))
-  (c.in_ok-search_from.ensures.first (take c.loop-start.start-index c.args.from.now) c.loop-start.invariant.first);
+      (c.in_ok-search_from.ensures.first (take c.loop-start.start-index c.args.from.now) c.loop-start.invariant.first);
 }
 
 pub returns-clause-first : goal.returns-clause-first

@@ -1,5 +1,5 @@
-use Rattle.std.proofs.Common.{ℕ, true, set, ◌≡◌, ◌+◌, ◌≤◌, ◌∷◌, ap, length, sym, ◌∙◌, subst, Some, arith}
-use Rattle.hs_cycles.specs.Underway.{Comes, IsUnderway, places_left, work_left}
+use Rattle.std.proofs.Common.{set, ◌≡◌, ◌+◌, ap, length, sym, ◌∙◌, subst, Some, arith}
+use Rattle.hs_cycles.specs.Underway.{Comes, IsUnderway, places_left}
 use Rattle.hs_cycles.proofs.Steps.{comes-enters, enters, goes-on, less-places, start-reaches}
 use Rattle.hs_cycles.proofs.searching.visit.Goals as goal
 

@@ -1,4 +1,4 @@
-use Rattle.std.proofs.Common.{◌<◌, arith, get_or}
+use Rattle.std.proofs.Common.{arith, get_or}
 use Rattle.hs_cycles.proofs.Ranges.{has-at}
 use Rattle.hs_cycles.proofs.turning.turn_steps.Goals as goal
 
