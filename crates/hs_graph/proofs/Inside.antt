@@ -14,6 +14,8 @@ use Rattle.hs_types.specs.Supertypes as below
 use Rattle.hs_types.specs.Metamodel.{target_of}
 use Rattle.hs_types.specs.TypedGraph.{IsOf, IsTyped, Stands, object_at}
 use Rattle.hs_types.proofs.Below.{says_below}
+use Rattle.hs_cycles.specs.Reaching.{IsWhole}
+use Rattle.hs_cycles.proofs.Paths.{leads-extends}
 use Rattle.hs_graph.specs.Problems.{Contains, IsInside, by_way_of, contents, contents_of, direct, is_containment}
 use Rattle.hs_graph.proofs.Slots.{All-at, found}
 
@@ -136,3 +138,10 @@ to_below m g n k typed (by_way_of _ j _ step rest) = below.by_way_of n j k (to_e
 -- The counted steps say the relation.
 pub inside_says : (m : Metamodel) (g : Graph) (n k : ℕ) → IsTyped m g → (below.is_below (contents m g) n k ≡ true) ↔ IsInside m g n k
 inside_says m g n k typed = (λ e. to_inside m g n k ((says_below (contents m g) n k).0 e), λ i. (says_below (contents m g) n k).1 (to_below m g n k typed i))
+
+-- What is contained is a number that objects can have.
+pub contents-whole : (m : Metamodel) (g : Graph) → IsTyped m g → IsWhole (contents m g)
+contents-whole m g typed n k step =
+    let inside = (contained-below m g n k typed (to_contains m g n k (leads-extends (contents m g) n k step))).1 in
+    let long = length-contents m g 0 g.next_object in
+    omega (arith, inside, long)

@@ -9,7 +9,3 @@ pub mod Clean
 pub mod Slots
 pub mod Opening
 pub mod Inside
-pub mod Climbs
-pub mod Adding
-pub mod Linking
-pub mod Rows

@@ -6,4 +6,3 @@ pub mod Meaning
 pub mod Answers
 pub mod Samples
 pub mod Problems
-pub mod Climbing

@@ -17,7 +17,6 @@ use std::alloc::Global;
 
 mod attrs;
 mod classes;
-mod climbing;
 mod containment;
 mod edges;
 mod examples;

@@ -1,7 +1,7 @@
 use Rattle.std.proofs.Common.{◌≡◌, ◌++◌, ◌∷◌, [], ◌∙◌, ap, sym, map}
 use Rattle.std.specs.List.{filter, range_with_len}
 use Rattle.hs_graph.specs.Problems as spec
-use Rattle.hs_graph.proofs.Rows.{one_more}
+use Rattle.hs_types.proofs.Below.{one_row_more}
 use Rattle.hs_graph.proofs.containment.contents.Goals as goal
 
 pub loop-n-preserved : goal.loop-n-preserved
@@ -13,4 +13,4 @@ loop-n-preserved c =
     c.in_ok-push.ensures.ok
     ∙ ap (λ made. made ++ c.in_ok-contents_of.field-0 ∷ []) c.loop-n.invariant
     ∙ ap (λ item. map f (range_with_len 0 c.loop-n.n) ++ item ∷ []) is
-    ∙ sym (one_more f c.loop-n.n)
+    ∙ sym (one_row_more f c.loop-n.n)
