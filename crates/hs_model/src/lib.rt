@@ -10,6 +10,7 @@ mod fault;
 mod graph;
 mod graph_form;
 mod graph_line;
+mod graph_text;
 mod index;
 mod meta;
 mod meta_form;
@@ -24,7 +25,8 @@ mod words;
 pub use fault::{Fault, Wrong};
 pub use graph::{GraphFailure, read_graph};
 pub use graph_form::raw_objects;
-pub use graph_line::{graph_value, write_graph};
+pub use graph_line::graph_value;
+pub use graph_text::{with_graph, write_graph};
 pub use meta::{MetaFailure, read_meta};
 pub use meta_form::raw_meta;
 pub use values::{
