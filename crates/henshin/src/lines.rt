@@ -10,12 +10,12 @@ ghost use Rattle.henshin.specs.ReportText.{number_data, arg_data, args_data, rul
 
 use hs_expr::{List, Text, Value as Datum};
 use hs_model::{
-    Members, attrs_value, class_name, datum_value, graph_value, list_value, text_value, texts_value,
+    Members, attrs_value, class_name, datum_value, list_value, text_value, texts_value, with_graph,
 };
 use hs_session::{Out, Reply, Report, Word};
 use hs_types::{
-    Arg, Args, Entry, ExtensionNames, Gone, Graph, MatchNames, Meta, NamedArg, Outcome, RuleSet,
-    Tried, What,
+    Arg, Args, Entry, ExtensionNames, Gone, MatchNames, Meta, NamedArg, Outcome, RuleSet, Tried,
+    What,
 };
 use serde_json::{Value, json, put};
 use std::alloc::{AllocError, Global};
@@ -27,15 +27,9 @@ pub fn report_text(alloc: Global, rules: &RuleSet, report: &Report) -> Result<Te
     let mut text = String::new(alloc);
     add_entries(alloc, &mut text, rules, report.journal.as_slice())?;
     add_replies(alloc, &mut text, report.replies.as_slice())?;
-    add_graph(alloc, &mut text, &report.graph.meta, &report.graph.graph)?;
+    let mut text = with_graph(alloc, text, &report.graph.meta, &report.graph.graph)?;
+    text.push('\n')?;
     Ok(Text::from_string(text))
-}
-
-fn add_graph(alloc: Global, text: &mut String, meta: &Meta, graph: &Graph) -> Result<(), AllocError>
-    ensures { OnOk result (string_bytes text.new ≡ string_bytes text.old ++ line_of (graph_data meta.now graph.now)) }
-{
-    let line = graph_value(alloc, meta, graph)?;
-    add_line(alloc, text, &line)
 }
 
 fn add_entries(

@@ -1,5 +1,5 @@
 -- What a bundle asks for: nothing, or one call of its one rule. More is not built yet.
-use Rattle.std.specs.Prelude.{List, Bool, true, false, not, codes, if◌then◌else◌, Option, Some, None}
+use Rattle.std.specs.Prelude.{ℕ, List, Bool, true, false, not, codes, if◌then◌else◌, Option, Some, None}
 use Rattle.std.specs.Option.{option_and_then, option_map_or}
 use Rattle.serde_json.specs.Data.{Data, array, object, no_items, item, no_members, member}
 use Rattle.serde_json.specs.Find.{get, as_str}

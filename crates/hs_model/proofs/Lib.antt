@@ -1,3 +1,4 @@
+pub mod ByName
 pub mod Few
 pub mod Floats
 pub mod FormBack
@@ -5,3 +6,4 @@ pub mod Lists
 pub mod NamesBack
 pub mod SlotsBack
 pub mod Sorted
+pub mod Tokens

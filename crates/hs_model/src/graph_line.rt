@@ -1,16 +1,15 @@
 //! A graph as it is written.
 
-ghost use Rattle.std.specs.Prelude.{◌≡◌, ℕ, ◌++◌, List, [], IfOk, OnOk, map, eqb, false, option_map, unwrap_or};
+ghost use Rattle.std.specs.Prelude.{◌≡◌, ℕ, ◌++◌, List, [], IfOk, OnOk, map, eqb, option_map, unwrap_or};
 ghost use Rattle.std.specs.Ordering.{nat_cmp};
 ghost use Rattle.std.specs.BTreeMap.{get};
 ghost use Rattle.serde_json.specs.Data.{string};
 ghost use Rattle.serde_json.specs.View.{view, items_of, members_view};
-ghost use Rattle.serde_json.specs.Written.{compact_text, has_float};
 ghost use Rattle.hs_types.specs.Metamodel.{features_of};
 ghost use Rattle.hs_model.specs.Written.{with_members, list_data, object_data, reference_member, feature_name, targets_of, refs_members, object_members, edges_from, object_line, graph_data};
 ghost use Rattle.hs_types.specs.TypedGraph.{object_at};
 
-use crate::index::{Objects, Outgoing, objects_of, outgoing_of};
+use crate::index::{Objects, Outgoing, edges_from, name_of, objects_of, outgoing_of};
 use crate::values::{Members, attrs_value, class_name, feature_name, text_value, texts_value};
 use hs_expr::{List, Text};
 use hs_types::{ClassNo, Edge, FeatureNo, Graph, Meta, Object, ObjectNo};
@@ -23,21 +22,6 @@ pub fn graph_value(alloc: Global, meta: &Meta, graph: &Graph) -> Result<Value, A
 {
     let objects = objects_value(alloc, meta, graph)?;
     json!(in alloc; {"graph": objects})
-}
-
-/// The compact text of a graph.
-pub fn write_graph(alloc: Global, meta: &Meta, graph: &Graph) -> Result<Text, AllocError>
-    ensures { IfOk result (λ text. text ≡ compact_text (graph_data meta.now graph.now)) }
-{
-    let value = graph_value(alloc, meta, graph)?;
-    compact_text(alloc, &value)
-}
-
-fn compact_text(alloc: Global, value: &Value) -> Result<Text, AllocError>
-    requires { has_float (view value.now) ≡ false }
-    ensures { IfOk result (λ text. text ≡ compact_text (view value.now)) }
-{
-    Ok(Text::from_string(value.to_string(alloc)?))
 }
 
 fn objects_value(alloc: Global, meta: &Meta, graph: &Graph) -> Result<Value, AllocError>
@@ -67,26 +51,6 @@ fn line_value(
 {
     let edges = edges_from(outgoing, object.number);
     object_value(alloc, meta, objects, edges, object)
-}
-
-/// The edges that begin at an object.
-fn edges_from(outgoing: &Outgoing, number: ObjectNo) -> &[Edge]
-    ensures { result.now ≡ unwrap_or (option_map (λ v. v.items) (get nat_cmp outgoing.now number)) [] }
-{
-    match outgoing.get(&number) {
-        Some(edges) => edges.as_slice(),
-        None => &[],
-    }
-}
-
-/// The name of an object.
-fn name_of<'a>(objects: &Objects<'a>, number: ObjectNo) -> &'a str
-    ensures { result.now ≡ unwrap_or (option_map (λ o. o.now.name) (get nat_cmp objects.now number)) [] }
-{
-    match objects.get(&number) {
-        Some(object) => object.name.as_str(),
-        None => "",
-    }
 }
 
 fn object_value(

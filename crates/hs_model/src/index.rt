@@ -61,3 +61,23 @@ fn add_edge(alloc: Global, outgoing: &mut Outgoing, edge: Edge) -> Result<(), Al
     outgoing.insert(edge.source, edges)?;
     Ok(())
 }
+
+/// The edges that begin at an object.
+pub fn edges_from(outgoing: &Outgoing, number: ObjectNo) -> &[Edge]
+    ensures { result.now ≡ unwrap_or (option_map (λ v. v.items) (get nat_cmp outgoing.now number)) [] }
+{
+    match outgoing.get(&number) {
+        Some(edges) => edges.as_slice(),
+        None => &[],
+    }
+}
+
+/// The name of an object.
+pub fn name_of<'a>(objects: &Objects<'a>, number: ObjectNo) -> &'a str
+    ensures { result.now ≡ unwrap_or (option_map (λ o. o.now.name) (get nat_cmp objects.now number)) [] }
+{
+    match objects.get(&number) {
+        Some(object) => object.name.as_str(),
+        None => "",
+    }
+}

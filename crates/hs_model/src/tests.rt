@@ -1,4 +1,4 @@
-use crate::{read_graph, read_meta, write_graph};
+use crate::{read_graph, read_meta, with_graph, write_graph};
 use hs_expr::{List, Text, Value as Scalar};
 use hs_types::{Edge, EdgeNo, FeatureNo, Graph, Meta, Object, ObjectNo, Slot};
 use serde_json::Value;
@@ -107,6 +107,17 @@ fn edges_read(alloc: Global, text: &str) -> Option<List<Edge>> {
     Some(read(alloc, &meta, text)?.edges)
 }
 
+/// A text, and behind it the graph of one client.
+fn written_behind(alloc: Global) -> Option<String> {
+    let meta = bank(alloc)?;
+    let graph = read(
+        alloc,
+        &meta,
+        "{\"graph\":[{\"name\":\"b\",\"class\":\"Client\"}]}",
+    )?;
+    with_graph(alloc, String::from_str(alloc, "so: ").ok()?, &meta, &graph).ok()
+}
+
 /// Two objects with parallel edges, a loop, inherited features and every kind of value.
 const FULL: &str =
     "{\"graph\":[{\"attrs\":{\"name\":\"An\\\"n\"},\"class\":\"Client\",\"name\":\"a\",\"refs\":{\"accounts\":[\"b\",\"b\"],\"link\":[\"b\",\"a\"]}},{\"attrs\":{\"balance\":-2147483648,\"name\":\"\",\"open\":true,\"total\":9223372036854775807},\"class\":\"Account\",\"name\":\"b\",\"refs\":{\"owner\":[\"a\"]}}]}";
@@ -114,6 +125,16 @@ const FULL: &str =
 #[test]
 fn a_written_graph_is_written_the_same_again(rt: HostRuntime) {
     assert!(rt; is_rewritten(rt.alloc(), FULL, FULL));
+}
+
+#[test]
+fn a_graph_is_written_behind_a_text(rt: HostRuntime) {
+    let expected =
+        "so: {\"graph\":[{\"attrs\":{\"name\":\"?\"},\"class\":\"Client\",\"name\":\"b\",\"refs\":{}}]}";
+    match written_behind(rt.alloc()) {
+        Some(text) => assert!(rt; text.as_str() == expected),
+        None => assert!(rt; false, "the graph isn't written"),
+    }
 }
 
 #[test]
