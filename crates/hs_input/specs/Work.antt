@@ -1,8 +1,9 @@
 -- What a bundle asks for: nothing, or one call of its one rule. More is not built yet.
-use Rattle.std.specs.Prelude.{ℕ, List, Bool, true, false, not, codes, if◌then◌else◌, Option, Some, None}
+use Rattle.std.specs.Prelude.{ℕ, List, Bool, true, false, not, ◌&&◌, eqb, length, is_some, codes, if◌then◌else◌, Option, Some, None}
 use Rattle.std.specs.Option.{option_and_then, option_map_or}
-use Rattle.serde_json.specs.Data.{Data, array, object, no_items, item, no_members, member}
-use Rattle.serde_json.specs.Find.{get, as_str}
+use Rattle.serde_json.specs.Data.{Data}
+use Rattle.serde_json.specs.Find.{as_array, as_object, as_str, at, get}
+use Rattle.hs_forms.specs.Form.{entries}
 use Rattle.hs_text.specs.declared.syntax.Syntax.{Syntax}
 use Rattle.hs_types.specs.declared.meta.Metamodel.{Metamodel}
 use Rattle.hs_types.specs.declared.rule.Rule.{Rule}
@@ -11,9 +12,9 @@ use Rattle.hs_check.specs.Meaning.{rule_of}
 use Rattle.hs_input.specs.declared.work.Work.{Work}
 use Rattle.hs_input.specs.declared.work.Work.TheVariants.{Nothing, Once}
 
+-- A list without a first item.
 abbrev pub is_empty_list : Data → Bool
-is_empty_list (array no_items) = true
-is_empty_list _ = false
+is_empty_list d = is_some (as_array d) && not (is_some (at 0 d))
 
 -- The list at this key is left out, or empty.
 abbrev pub has_none : List ℕ → Data → Bool
@@ -21,12 +22,10 @@ has_none key d = option_map_or is_empty_list (get key d) true
 
 -- The only item of a list.
 abbrev pub only_item : Data → Option Data
-only_item (array (item d no_items)) = Some d
-only_item _ = None
+only_item d = if is_some (at 1 d) then None else at 0 d
 
 abbrev pub has_one_member : Data → Bool
-has_one_member (object (member key d no_members)) = true
-has_one_member _ = false
+has_one_member d = option_map_or (λ ms. eqb (length (entries ms)) 1) (as_object d) false
 
 -- The value at this key of an object that has no other.
 abbrev pub only_member : List ℕ → Data → Option Data

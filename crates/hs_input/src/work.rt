@@ -55,10 +55,7 @@ fn has_none(whole: &Value, key: &str) -> bool
 fn is_empty_list(value: &Value) -> bool
     ensures { result ≡ spec.is_empty_list (view value.now) }
 {
-    match value {
-        Value::Array(items) => items.is_empty(),
-        _ => false,
-    }
+    value.is_array() && value.get(0).is_none()
 }
 
 /// The rule once, where the sessions call it.
@@ -90,12 +87,10 @@ fn call_in(sessions: &Value) -> Option<&str>
 fn only_item(value: &Value) -> Option<&Value>
     ensures { option_map (λ v. view v.now) result ≡ spec.only_item (view value.now) }
 {
-    match value {
-        Value::Array(items) => match items.as_slice() {
-            [item] => Some(item),
-            _ => None,
-        },
-        _ => None,
+    if value.get(1).is_some() {
+        None
+    } else {
+        value.get(0)
     }
 }
 
@@ -110,11 +105,12 @@ fn only_member<'a>(value: &'a Value, key: &str) -> Option<&'a Value>
     }
 }
 
+#[tactic(auto, using(crate::proofs::Members::count))]
 fn has_one_member(value: &Value) -> bool
     ensures { result ≡ spec.has_one_member (view value.now) }
 {
-    match value {
-        Value::Object(members) => members.len() == 1,
-        _ => false,
+    match value.as_object() {
+        Some(members) => members.len() == 1,
+        None => false,
     }
 }
