@@ -1,13 +1,14 @@
 -- Maps of items by their names, with one more item.
-use Rattle.std.proofs.Common.{ℕ, ◌≡◌, ◌++◌, ◌∷◌, [], List, Bool, true, false, cond, not, is_some, Option, Some, None, refl, sym, ap, ◌∙◌, Bor}
+use Rattle.std.proofs.Common.{ℕ, ◌+◌, ◌<◌, ◌≡◌, ◌++◌, ◌∷◌, [], List, Bool, true, false, cond, not, is_some, Option, Some, None, length, take, get_or, refl, sym, ap, subst, ◌∙◌, Bor}
 use Rattle.std.proofs.lemmas.Bool.{false≢true}
+use Rattle.std.proofs.lemmas.List.{take_more}
 use Rattle.std.proofs.lemmas.List.Folds.{find-append}
-use Rattle.std.proofs.lemmas.Map.Text.{btree_map_updates_str}
+use Rattle.std.proofs.lemmas.Map.Text.{hash_map_updates_str}
 use Rattle.std.proofs.lemmas.Slice.Eq.{bytes_eq-Decides}
-use Rattle.std.specs.BTreeMap.{BTreeMap, UpdatesBy, get_by}
-use Rattle.std.specs.Cmp.Lexicographic.{nat_list_eq_equiv, slice_cmp}
+use Rattle.std.specs.Cmp.Lexicographic.{nat_list_eq_equiv}
 use Rattle.std.specs.Option.{option_copied, option_or}
-use Rattle.std.specs.Ordering.{nat_cmp}
+use Rattle.std.specs.Str.{bytes_eq}
+use Rattle.indexmap.specs.IndexMap.{IndexMap, UpdatesBy, get_by}
 use Rattle.hs_expr.specs.declared.Name.{Name}
 use Rattle.hs_types.specs.Lists.{same_text}
 use Rattle.hs_rules.specs.Named.{Knows, first_named}
@@ -17,9 +18,9 @@ some-copied None = refl
 some-copied (Some x) = refl
 
 -- What the map has for a name is there exactly where an item has it.
-pub known_there : {T : Type 0} (name_of : T → Name) (items : List T) (known : BTreeMap (Bor (List ℕ)) (Bor T)) (name : List ℕ) (found : Option (Bor T)) →
-    Knows name_of known items → found ≡ get_by (λ k. slice_cmp nat_cmp name k.now) known → is_some found ≡ is_some (first_named name_of items name)
-known_there name_of items known name found knows e = ap is_some e ∙ sym (some-copied (get_by (λ k. slice_cmp nat_cmp name k.now) known)) ∙ ap is_some (knows name)
+pub known_there : {T S : Type 0} (name_of : T → Name) (items : List T) (known : IndexMap (Bor (List ℕ)) (Bor T) S) (name : List ℕ) (found : Option (Bor T)) →
+    Knows name_of known items → found ≡ get_by (λ k. bytes_eq name k.now) known → is_some found ≡ is_some (first_named name_of items name)
+known_there name_of items known name found knows e = ap is_some e ∙ sym (some-copied (get_by (λ k. bytes_eq name k.now) known)) ∙ ap is_some (knows name)
 
 one_more : {T : Type 0} (here there : Bool) (before : Option T) (item : T) (at : Bor T) (old : Option (Bor T)) →
     here ≡ there → (here ≡ true → before ≡ None) → at.now ≡ item → option_copied old ≡ before →
@@ -35,13 +36,13 @@ absent None e = refl
 absent (Some x) e = absurd (false≢true (sym e))
 
 -- With a new name the map knows one more item.
-pub known_more : {T : Type 0} (name_of : T → Name) (items : List T) (item : T) (at : Bor T) (known next : BTreeMap (Bor (List ℕ)) (Bor T)) →
+pub known_more : {T S : Type 0} (name_of : T → Name) (items : List T) (item : T) (at : Bor T) (known next : IndexMap (Bor (List ℕ)) (Bor T) S) →
     Knows name_of known items → at.now ≡ item → is_some (first_named name_of items (name_of item).text) ≡ false →
-    UpdatesBy (λ x y. slice_cmp nat_cmp x.now y.now) (λ k. slice_cmp nat_cmp (name_of item).text k.now) known next (Some at) →
+    UpdatesBy (λ x y. bytes_eq x.now y.now) (λ k. bytes_eq (name_of item).text k.now) known next (Some at) →
     Knows name_of next (items ++ item ∷ [])
 known_more name_of items item at known next knows is new updates = λ name.
-    ap option_copied (btree_map_updates_str (name_of item).text known next (Some at) updates name)
-    ∙ one_more (same_text (name_of item).text name) (same_text name (name_of item).text) (first_named name_of items name) item at (get_by (λ k. slice_cmp nat_cmp name k.now) known)
+    ap option_copied (hash_map_updates_str (name_of item).text known next (Some at) updates name)
+    ∙ one_more (same_text (name_of item).text name) (same_text name (name_of item).text) (first_named name_of items name) item at (get_by (λ k. bytes_eq name k.now) known)
     (nat_list_eq_equiv.symm (name_of item).text name)
     (λ e. absent (first_named name_of items name) (ap (λ t. is_some (first_named name_of items t)) (sym ((bytes_eq-Decides (name_of item).text name).0 e)) ∙ new))
     is (knows name)
@@ -68,7 +69,7 @@ found_there false false (Some x) back h e none = refl
 found_there false false None back h e none = none
 
 -- An item whose name is there changes nothing.
-pub known_again : {T : Type 0} (name_of : T → Name) (items : List T) (item : T) (known : BTreeMap (Bor (List ℕ)) (Bor T)) →
+pub known_again : {T S : Type 0} (name_of : T → Name) (items : List T) (item : T) (known : IndexMap (Bor (List ℕ)) (Bor T) S) →
     Knows name_of known items → is_some (first_named name_of items (name_of item).text) ≡ true → Knows name_of known (items ++ item ∷ [])
 known_again name_of items item known knows there = λ name.
     knows name
@@ -80,3 +81,9 @@ known_again name_of items item known knows there = λ name.
     only_then : {T : Type 0} (b : Bool) (item : T) → cond b (Some item) None ≡ cond b (cond b (Some item) None) None
     only_then true item = refl
     only_then false item = refl
+
+-- What is known behind an item is known of the items up to it.
+pub known_next : {T S : Type 0} (name_of : T → Name) (items : List T) (i : ℕ) (item : T) (known : IndexMap (Bor (List ℕ)) (Bor T) S) →
+    i < length items → get_or items i item ≡ item → Knows name_of known (take i items ++ item ∷ []) → Knows name_of known (take (i + 1) items)
+known_next name_of items i item known h is knows =
+    subst (Knows name_of known) (sym (take_more items i item h ∙ ap (λ y. take i items ++ y ∷ []) is)) knows

@@ -14,7 +14,7 @@ use Rattle.hs_types.proofs.Under.{conforms_by}
 use Rattle.hs_rules.specs.Names.{has_concrete, is_concrete}
 
 -- The test of one class says that it conforms to the other.
-says_conforms : (m : Metamodel) (c d : ℕ) → Conforms m c d → conforms (supers_of m) c d ≡ true
+pub says_conforms : (m : Metamodel) (c d : ℕ) → Conforms m c d → conforms (supers_of m) c d ≡ true
 says_conforms m c d h = go ((conforms_by m c d).0 h)
   where
     go : (c ≡ d) ⊎ IsBelow (supers_of m) c d → conforms (supers_of m) c d ≡ true
@@ -25,7 +25,7 @@ says_conforms m c d h = go ((conforms_by m c d).0 h)
         right true b e = refl
         right false b e = e
 
-does_conform : (m : Metamodel) (c d : ℕ) → conforms (supers_of m) c d ≡ true → Conforms m c d
+pub does_conform : (m : Metamodel) (c d : ℕ) → conforms (supers_of m) c d ≡ true → Conforms m c d
 does_conform m c d e = (conforms_by m c d).1 (go (eqb c d) refl e)
   where
     go : (b : Bool) → eqb c d ≡ b → (b || is_below (supers_of m) c d) ≡ true → (c ≡ d) ⊎ IsBelow (supers_of m) c d
@@ -33,11 +33,11 @@ does_conform m c d e = (conforms_by m c d).1 (go (eqb c d) refl e)
     go false apart h = inr ((says_below (supers_of m) c d).0 h)
 
 -- The class is there, and not abstract.
-concrete_at : (found : Option Class) → IsSomeAnd found (λ class. class.is_abstract ≡ false) → option_map_or (λ class. not class.is_abstract) found false ≡ true
+pub concrete_at : (found : Option Class) → IsSomeAnd found (λ class. class.is_abstract ≡ false) → option_map_or (λ class. not class.is_abstract) found false ≡ true
 concrete_at None h = absurd h
 concrete_at (Some class) h = rw h refl
 
-at_concrete : (found : Option Class) → option_map_or (λ class. not class.is_abstract) found false ≡ true → IsSomeAnd found (λ class. class.is_abstract ≡ false)
+pub at_concrete : (found : Option Class) → option_map_or (λ class. not class.is_abstract) found false ≡ true → IsSomeAnd found (λ class. class.is_abstract ≡ false)
 at_concrete None h = absurd (false≢true h)
 at_concrete (Some class) h = go class.is_abstract h
   where
@@ -45,13 +45,13 @@ at_concrete (Some class) h = go class.is_abstract h
     go true e = sym e
     go false e = refl
 
-stands : (classes : List Class) (d : ℕ) → IsSomeAnd (slice_get classes d) (λ class. class.is_abstract ≡ false) → d < length classes
+pub stands : (classes : List Class) (d : ℕ) → IsSomeAnd (slice_get classes d) (λ class. class.is_abstract ≡ false) → d < length classes
 stands [] d h = absurd h
 stands (class ∷ classes) zero h = omega arith
 stands (class ∷ classes) (suc d) h = let rest = stands classes d h in omega arith
 
 -- A number of the range passes.
-of_range : (p : ℕ → Bool) (a n : ℕ) → list_any p (range_with_len a n) ≡ true → (d : ℕ) × (p d ≡ true)
+pub of_range : (p : ℕ → Bool) (a n : ℕ) → list_any p (range_with_len a n) ≡ true → (d : ℕ) × (p d ≡ true)
 of_range p a zero e = absurd (false≢true e)
 of_range p a (suc n) e = go (of_range p (a + 1) n) (p a) refl e
   where
@@ -59,7 +59,7 @@ of_range p a (suc n) e = go (of_range p (a + 1) n) (p a) refl e
     go later true is h = (a, is)
     go later false is h = later h
 
-in_range : (p : ℕ → Bool) (n d : ℕ) → d < n → p d ≡ true → list_any p (range_with_len 0 n) ≡ true
+pub in_range : (p : ℕ → Bool) (n d : ℕ) → d < n → p d ≡ true → list_any p (range_with_len 0 n) ≡ true
 in_range p n d h e =
     let within : d < length (range_with_len 0 n) = rw (length-range_with_len 0 n) h in
     let is : get_or (range_with_len 0 n) d 0 ≡ d = get_or-range_with_len 0 n d 0 h ∙ omega arith in

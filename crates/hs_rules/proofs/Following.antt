@@ -1,9 +1,11 @@
 -- The rules of a text, definition by definition.
-use Rattle.std.proofs.Common.{ℕ, ◌+◌, ◌<◌, ◌≡◌, List, [], ◌∷◌, ◌++◌, drop, take, get_or, length, Result, Ok, ap, sym, ◌∙◌, refl}
+use Rattle.std.proofs.Common.{ℕ, ◌+◌, ◌<◌, ◌≡◌, List, [], ◌∷◌, ◌++◌, drop, take, get_or, length, Result, Ok, ap, subst, sym, ◌∙◌, refl}
 use Rattle.std.proofs.lemmas.Grind.{flat_map-append}
 use Rattle.std.proofs.lemmas.List.{drop_more, take_more}
 use Rattle.std.proofs.lemmas.List.Elements.{All-cons, All-nil}
 use Rattle.std.specs.List.{All, AllByRecursion, flat_map}
+use Rattle.hs_expr.specs.declared.failure.Failure.{Failure}
+use Rattle.hs_expr.specs.Steps.{Fails}
 use Rattle.hs_expr.specs.Verdict.{verdict}
 use Rattle.hs_expr.proofs.Verdicts.{verdict-append-ok}
 use Rattle.hs_text.specs.declared.syntax.Definition.{Definition}
@@ -11,6 +13,7 @@ use Rattle.hs_text.specs.declared.syntax.Rule.{Rule}
 use Rattle.hs_text.specs.declared.syntax.Unit.{Unit as WrittenUnit}
 use Rattle.hs_types.specs.declared.meta.Metamodel.{Metamodel}
 use Rattle.hs_rules.specs.declared.fault.RuleFault.{RuleFault}
+use Rattle.hs_rules.proofs.Failing.{fails_in_front}
 use Rattle.hs_rules.specs.Faults.{faults_behind, faults_of_definition, rule_of}
 use Rattle.hs_rules.specs.UnitFaults.{unit_faults_behind, unit_faults_of_definition, unit_of}
 
@@ -33,6 +36,15 @@ pub definition_next : (m : Metamodel) (before : List Rule) (definitions : List D
 definition_next m before definitions i d whole h is rest none =
     sym (verdict-append-ok (faults_of_definition m before d) (faults_behind m (before ++ rule_of d) (drop (i + 1) definitions)) none)
     ∙ ap (λ ds. verdict (faults_behind m before ds)) (sym (drop_more definitions i d h ∙ ap (λ y. y ∷ drop (i + 1) definitions) is)) ∙ rest
+
+-- The failure at definition i is that of all, where those before have no fault.
+pub definition_fails : (m : Metamodel) (before : List Rule) (definitions : List Definition) (i : ℕ) (d : Definition) (failure : Failure RuleFault) (whole : Result (Unit {0}) RuleFault) →
+    i < length definitions → get_or definitions i d ≡ d → verdict (faults_behind m before (drop i definitions)) ≡ whole →
+    Fails failure (verdict (faults_of_definition m before d)) → Fails failure whole
+definition_fails m before definitions i d failure whole h is rest e =
+    subst (λ told. Fails failure told)
+    (ap (λ ds. verdict (faults_behind m before ds)) (sym (drop_more definitions i d h ∙ ap (λ y. y ∷ drop (i + 1) definitions) is)) ∙ rest)
+    (fails_in_front failure (faults_of_definition m before d) (faults_behind m (before ++ rule_of d) (drop (i + 1) definitions)) e)
 
 pub all_from : {A : Type 0} (P : A → Type 0) (xs : List A) → AllByRecursion P xs → All P xs
 all_from P [] fine = All-nil P

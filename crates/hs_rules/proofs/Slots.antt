@@ -2,13 +2,13 @@
 use Rattle.std.proofs.Common.{ℕ, ◌≡◌, ◌++◌, ◌∷◌, [], ◌&&◌, ◌||◌, List, Bool, true, false, cond, OnOk, Option, Some, Result, Ok, Err, refl, sym, ap, ◌∙◌, Bor}
 use Rattle.std.proofs.lemmas.Bool.{false≢true}
 use Rattle.std.proofs.lemmas.List.Folds.{list_any-append}
-use Rattle.std.proofs.lemmas.Map.Text.{btree_map_updates_str}
+use Rattle.std.proofs.lemmas.Map.Text.{hash_map_updates_str}
 use Rattle.std.proofs.lemmas.Slice.Eq.{bytes_eq-Decides}
-use Rattle.std.specs.BTreeMap.{BTreeMap, UpdatesBy, get_by}
-use Rattle.std.specs.Cmp.Lexicographic.{nat_list_eq_equiv, slice_cmp}
+use Rattle.std.specs.Cmp.Lexicographic.{nat_list_eq_equiv}
 use Rattle.std.specs.List.{list_any}
 use Rattle.std.specs.Option.{option_map_or}
-use Rattle.std.specs.Ordering.{nat_cmp}
+use Rattle.std.specs.Str.{bytes_eq}
+use Rattle.indexmap.specs.IndexMap.{IndexMap, UpdatesBy, get_by}
 use Rattle.hs_types.specs.Lists.{same_text}
 use Rattle.hs_rules.specs.ThirdPass.{Slot, is_set}
 use Rattle.hs_rules.specs.Written.{HasSlots, attributes_in}
@@ -18,21 +18,21 @@ or_none : {A : Type 0} (b : Bool) (w old : Option (List A)) → option_map_or (�
 or_none true w old = refl
 or_none false w old = refl
 
-pub updated : (node : List ℕ) (old new : BTreeMap (Bor (List ℕ)) (List (Bor (List ℕ)))) (w : Option (List (Bor (List ℕ)))) →
-    UpdatesBy (λ x y. slice_cmp nat_cmp x.now y.now) (λ k. slice_cmp nat_cmp node k.now) old new w →
+pub updated : {S : Type 0} (node : List ℕ) (old new : IndexMap (Bor (List ℕ)) (List (Bor (List ℕ))) S) (w : Option (List (Bor (List ℕ)))) →
+    UpdatesBy (λ x y. bytes_eq x.now y.now) (λ k. bytes_eq node k.now) old new w →
     (name : List ℕ) → attributes_in new name ≡ cond (same_text node name) (option_map_or (λ attributes. attributes) w []) (attributes_in old name)
 updated node old new w updates name =
-    ap (λ (found : Option (List (Bor (List ℕ)))). option_map_or (λ (x : List (Bor (List ℕ))). x) found []) (btree_map_updates_str node old new w updates name)
-    ∙ or_none (same_text node name) w (get_by (λ k. slice_cmp nat_cmp name k.now) old)
+    ap (λ (found : Option (List (Bor (List ℕ)))). option_map_or (λ (x : List (Bor (List ℕ))). x) found []) (hash_map_updates_str node old new w updates name)
+    ∙ or_none (same_text node name) w (get_by (λ k. bytes_eq name k.now) old)
 
 twice_cond : {A : Type 0} (b : Bool) (x y z : A) → cond b x (cond b y z) ≡ cond b x z
 twice_cond true x y z = refl
 twice_cond false x y z = refl
 
 -- An attribute more, where the node's attributes were taken out and are put back with it.
-pub put_back : (node : List ℕ) (old mid new : BTreeMap (Bor (List ℕ)) (List (Bor (List ℕ)))) (attributes : List (Bor (List ℕ))) →
+pub put_back : {S : Type 0} (node : List ℕ) (old mid new : IndexMap (Bor (List ℕ)) (List (Bor (List ℕ))) S) (attributes : List (Bor (List ℕ))) →
     ((name : List ℕ) → attributes_in mid name ≡ cond (same_text node name) [] (attributes_in old name)) →
-    UpdatesBy (λ x y. slice_cmp nat_cmp x.now y.now) (λ k. slice_cmp nat_cmp node k.now) mid new (Some attributes) →
+    UpdatesBy (λ x y. bytes_eq x.now y.now) (λ k. bytes_eq node k.now) mid new (Some attributes) →
     (name : List ℕ) → attributes_in new name ≡ cond (same_text node name) attributes (attributes_in old name)
 put_back node old mid new attributes left updates name =
     updated node mid new (Some attributes) updates name
@@ -53,7 +53,7 @@ more_here false true before old there_old at attribute e here none = absurd (fal
 more_here false false before old there_old at attribute e here none = none ∙ sym (or_false before)
 
 -- With one more attribute of a node the map has one more slot.
-pub slot_more : (node : List ℕ) (at : Bor (List ℕ)) (old new : BTreeMap (Bor (List ℕ)) (List (Bor (List ℕ)))) (slots : List Slot) →
+pub slot_more : {S : Type 0} (node : List ℕ) (at : Bor (List ℕ)) (old new : IndexMap (Bor (List ℕ)) (List (Bor (List ℕ))) S) (slots : List Slot) →
     HasSlots old slots → ((name : List ℕ) → attributes_in new name ≡ cond (same_text node name) (attributes_in old node ++ at ∷ []) (attributes_in old name)) →
     HasSlots new (slots ++ record { node = node; attribute = at.now } ∷ [])
 slot_more node at old new slots has more = λ name attribute.

@@ -11,7 +11,7 @@ use crate::fault::RuleFault;
 use crate::rules::check_rules;
 use crate::units::each_right;
 use hs_expr::Failure;
-use hs_text::Syntax;
+use hs_text::{Definition, Syntax};
 use hs_types::Meta;
 use std::alloc::Global;
 
@@ -28,12 +28,25 @@ pub fn check(alloc: Global, meta: &Meta, syntax: &Syntax) -> Result<(), Failure<
 /// Whether the units of a text are free of faults over the metamodel, and else their first fault: unit
 /// by unit in written order, and behind them the first unit that calls itself by a path. Rules are
 /// looked at for their names and parameters alone.
-#[tactic(auto, using(hs_expr::proofs::Verdicts::each_steps, crate::proofs::Failing::fails))]
 pub fn check_units(alloc: Global, meta: &Meta, syntax: &Syntax) -> Result<(), Failure<RuleFault>>
     ensures { Gives result (verdict (spec.faults_of_units meta.now syntax.now.definitions)) }
 {
     let definitions = syntax.definitions.as_slice();
     let callees = Callees::new(alloc, definitions)?;
-    each_right(alloc, meta, &callees, definitions)?;
-    cycles_right(alloc, &callees, definitions)
+    units_right(alloc, meta, &callees, definitions)
+}
+
+/// The first fault of the units among the definitions, cycles behind all others.
+#[tactic(auto, using(hs_expr::proofs::Verdicts::each_steps, crate::proofs::Failing::fails))]
+fn units_right(
+    alloc: Global,
+    meta: &Meta,
+    callees: &Callees<'_>,
+    definitions: &[Definition],
+) -> Result<(), Failure<RuleFault>>
+    requires callees { callees.now ≡ definitions.now }
+    ensures { Gives result (verdict (spec.faults_of_units meta.now definitions.now)) }
+{
+    each_right(alloc, meta, callees, definitions)?;
+    cycles_right(alloc, callees, definitions)
 }

@@ -6,8 +6,8 @@ ghost use Rattle.hs_rules.specs.Named.{Knows, first_named};
 use crate::nodes::DeclaredNode;
 use hs_expr::Name;
 use hs_text::{Bind, Param, Rule, Unit};
+use indexmap::IndexMap;
 use std::alloc::{AllocError, Global};
-use std::collections::BTreeMap;
 
 /// Something with a name.
 pub trait Named {
@@ -65,7 +65,7 @@ impl Named for Bind {
 }
 
 /// Items by their names.
-pub type Known<'a, T> = BTreeMap<&'a str, &'a T>;
+pub type Known<'a, T> = IndexMap<&'a str, &'a T>;
 
 /// Adds the item, and tells whether its name is new.
 pub fn add_named<'a, T: Named>(known: &mut Known<'a, T>, item: &'a T) -> Result<bool, AllocError>

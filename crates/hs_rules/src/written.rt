@@ -7,11 +7,11 @@ ghost use Rattle.hs_rules.specs.ThirdPass.{Slot, is_set};
 ghost use Rattle.hs_rules.specs.Written.{HasSlots, attributes_in};
 
 use hs_expr::List;
+use indexmap::IndexMap;
 use std::alloc::{AllocError, Global};
-use std::collections::BTreeMap;
 
 /// For each node by its name the attributes that are set.
-pub type Written<'a> = BTreeMap<&'a str, List<&'a str>>;
+pub type Written<'a> = IndexMap<&'a str, List<&'a str>>;
 
 /// Whether the slot is set.
 pub fn is_set(written: &Written<'_>, node: &str, attribute: &str) -> bool
@@ -64,7 +64,7 @@ fn take_attributes<'a>(alloc: Global, written: &mut Written<'a>, node: &str) -> 
     ensures left { (name : List ℕ) → attributes_in written.new name
         ≡ cond (same_text node.now name) [] (attributes_in written.old name) }
 {
-    match written.remove(node) {
+    match written.swap_remove(node) {
         Some(attributes) => attributes,
         None => List::new(alloc),
     }

@@ -1,6 +1,8 @@
 use Rattle.std.proofs.Common.{take, sym}
 use Rattle.hs_expr.specs.Verdict.{verdict}
-use Rattle.hs_rules.proofs.Failing.{fails_here, handed_on}
+use Rattle.hs_text.specs.declared.syntax.Param.{Param}
+use Rattle.hs_rules.proofs.ByName.{known_next}
+use Rattle.hs_rules.proofs.Failing.{fails_here, goes_on, handed_on}
 use Rattle.hs_rules.specs.Named.{Knows}
 use Rattle.hs_rules.specs.UnitFaults.{faults_of_unit_params, unit_param_faults}
 use Rattle.hs_rules.proofs.units.unit_params_right.Goals as goal
@@ -11,3 +13,12 @@ returns-in_err-unit_param_right c =
     (fails_here (λ i param. unit_param_faults c.args.meta.now (take i c.args.params.now) param) c.args.params.now c.loop-param.param-index c.param-item.result c.in_err-unit_param_right.field-0.0 (verdict (faults_of_unit_params c.args.meta.now c.args.params.now))
     c.loop-param-test.true (sym c.param-item.is) c.loop-param.invariant.rest
     (c.in_err-unit_param_right.ensures.told (take c.loop-param.param-index c.args.params.now) c.loop-param.invariant.known))
+
+pub loop-param-preserved : goal.loop-param-preserved
+loop-param-preserved c =
+    let before = take c.loop-param.param-index c.args.params.now in
+    record {
+      known = known_next (λ (other : Param). other.name) c.args.params.now c.loop-param.param-index c.param-item.result c.unit_param_right.new.known c.loop-param-test.true (sym c.param-item.is) (c.in_ok-unit_param_right.ensures.known before c.loop-param.invariant.known);
+      rest = goes_on (λ i param. unit_param_faults c.args.meta.now (take i c.args.params.now) param) c.args.params.now c.loop-param.param-index c.param-item.result (verdict (faults_of_unit_params c.args.meta.now c.args.params.now))
+          c.loop-param-test.true (sym c.param-item.is) c.loop-param.invariant.rest (c.in_ok-unit_param_right.ensures.told before c.loop-param.invariant.known);
+    }

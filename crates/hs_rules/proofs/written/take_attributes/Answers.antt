@@ -3,7 +3,7 @@ use Rattle.hs_rules.proofs.Slots.{updated}
 use Rattle.hs_rules.proofs.written.take_attributes.Goals as goal
 
 pub returns-in-Some-clause-left : goal.returns-in-Some-clause-left
-returns-in-Some-clause-left c = updated c.args.node.now c.args.written.now c.remove.new.self None c.remove.ensures.updates
+returns-in-Some-clause-left c = updated c.args.node.now c.args.written.now c.swap_remove.new.self None c.swap_remove.ensures.updates
 
 pub returns-in-None-clause-left : goal.returns-in-None-clause-left
-returns-in-None-clause-left c = updated c.args.node.now c.args.written.now c.remove.new.self None c.remove.ensures.updates
+returns-in-None-clause-left c = updated c.args.node.now c.args.written.now c.swap_remove.new.self None c.swap_remove.ensures.updates
