@@ -66,31 +66,3 @@ pub attrs_none : (m : Metamodel) (slots : List Slot) → has_float (attrs_data m
 attrs_none m slots =
     object_none (map (λ slot. (feature_name m slot.attribute, value_data slot.value)) slots)
     (map_none (λ slot. (feature_name m slot.attribute, value_data slot.value)) slots (λ slot. value_none slot.value))
-
-pub reference_none : (name : List ℕ) (targets : List (List ℕ)) (ms : List Member) → HaveNone ms → HaveNone (reference_member name targets ++ ms)
-reference_none name [] ms h = h
-reference_none name (t ∷ ts) ms h = (list_none string (t ∷ ts) (λ n. refl), h)
-
-pub references_none : (m : Metamodel) (targets : ℕ → List (List ℕ)) (fs : List ℕ) → HaveNone (flat_map (λ f. reference_member (feature_name m f) (targets f)) fs)
-references_none m targets [] = tt
-references_none m targets (f ∷ fs) = reference_none (feature_name m f) (targets f) _ (references_none m targets fs)
-
-pub line_none : (m : Metamodel) (g : Graph) (o : Object) → has_float (object_line m g o) ≡ false
-line_none m g o =
-    object_none (object_members m (name_in g) (edges_from g o.number) o) (
-      attrs_none m o.slots,
-      (
-        refl,
-        (
-          refl,
-          (
-            object_none (refs_members m (name_in g) (edges_from g o.number) (features_of m o.class))
-                (references_none m (targets_of (name_in g) (edges_from g o.number)) (features_of m o.class)),
-            tt,
-          ),
-        ),
-      ),
-    )
-
-pub graph_none : (m : Metamodel) (g : Graph) → has_float (graph_data m g) ≡ false
-graph_none m g = object_none (graph_members m g) (list_none (object_line m g) g.objects (line_none m g), tt)
