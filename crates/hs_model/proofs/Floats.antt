@@ -1,20 +1,16 @@
 -- No value that a graph is written as has a float.
-use Rattle.std.proofs.Common.{ℕ, ◌≡◌, List, [], ◌∷◌, map, Bool, true, false, ◌||◌, refl, ◌++◌, pos, negsuc}
-use Rattle.std.specs.List.{flat_map}
+use Rattle.std.proofs.Common.{ℕ, ◌≡◌, List, [], ◌∷◌, map, Bool, true, false, ◌||◌, refl, pos, negsuc}
 use Rattle.std.specs.Ordering.{nat_cmp, match_ordering}
 use Rattle.std.specs.declared.cmp.Ordering.{Ordering}
 use Rattle.std.specs.declared.cmp.Ordering.TheVariants.{Less, Equal, Greater}
 use Rattle.std.specs.Cmp.Lexicographic.{slice_cmp}
-use Rattle.serde_json.specs.Data.{Data, string, Members, no_members, member, put}
+use Rattle.serde_json.specs.Data.{Data, Members, no_members, member, put}
 use Rattle.serde_json.specs.Written.{has_float, members_have_float}
 use Rattle.hs_expr.specs.declared.value.Value.{Value}
 use Rattle.hs_expr.specs.declared.value.Value.TheVariants as value
-use Rattle.hs_types.specs.declared.graph.Graph.{Graph}
-use Rattle.hs_types.specs.declared.graph.Object.{Object}
 use Rattle.hs_types.specs.declared.graph.Slot.{Slot}
 use Rattle.hs_types.specs.declared.meta.Metamodel.{Metamodel}
-use Rattle.hs_types.specs.Metamodel.{features_of}
-use Rattle.hs_model.specs.Written.{Member, with_members, object_data, list_data, value_data, attrs_data, feature_name, targets_of, edges_from, name_in, reference_member, refs_members, object_members, object_line, graph_members, graph_data}
+use Rattle.hs_model.specs.Written.{Member, with_members, object_data, list_data, value_data, attrs_data, feature_name}
 
 abbrev pub HaveNone : List Member → Type 0
 HaveNone [] = Unit {0}
