@@ -1,20 +1,16 @@
 -- No value that a graph is written as has a float.
-use Rattle.std.proofs.Common.{ℕ, ◌≡◌, List, [], ◌∷◌, map, Bool, true, false, ◌||◌, refl, ◌++◌, pos, negsuc}
-use Rattle.std.specs.List.{flat_map}
+use Rattle.std.proofs.Common.{ℕ, ◌≡◌, List, [], ◌∷◌, map, Bool, true, false, ◌||◌, refl, pos, negsuc}
 use Rattle.std.specs.Ordering.{nat_cmp, match_ordering}
 use Rattle.std.specs.declared.cmp.Ordering.{Ordering}
 use Rattle.std.specs.declared.cmp.Ordering.TheVariants.{Less, Equal, Greater}
 use Rattle.std.specs.Cmp.Lexicographic.{slice_cmp}
-use Rattle.serde_json.specs.Data.{Data, string, Members, no_members, member, put}
+use Rattle.serde_json.specs.Data.{Data, Members, no_members, member, put}
 use Rattle.serde_json.specs.Written.{has_float, members_have_float}
 use Rattle.hs_expr.specs.declared.value.Value.{Value}
 use Rattle.hs_expr.specs.declared.value.Value.TheVariants as value
-use Rattle.hs_types.specs.declared.graph.Graph.{Graph}
-use Rattle.hs_types.specs.declared.graph.Object.{Object}
 use Rattle.hs_types.specs.declared.graph.Slot.{Slot}
 use Rattle.hs_types.specs.declared.meta.Metamodel.{Metamodel}
-use Rattle.hs_types.specs.Metamodel.{features_of}
-use Rattle.hs_model.specs.Written.{Member, with_members, object_data, list_data, value_data, attrs_data, feature_name, targets_of, edges_from, name_in, reference_member, refs_members, object_members, object_line, graph_members, graph_data}
+use Rattle.hs_model.specs.Written.{Member, with_members, object_data, list_data, value_data, attrs_data, feature_name}
 
 abbrev pub HaveNone : List Member → Type 0
 HaveNone [] = Unit {0}
@@ -66,31 +62,3 @@ pub attrs_none : (m : Metamodel) (slots : List Slot) → has_float (attrs_data m
 attrs_none m slots =
     object_none (map (λ slot. (feature_name m slot.attribute, value_data slot.value)) slots)
     (map_none (λ slot. (feature_name m slot.attribute, value_data slot.value)) slots (λ slot. value_none slot.value))
-
-pub reference_none : (name : List ℕ) (targets : List (List ℕ)) (ms : List Member) → HaveNone ms → HaveNone (reference_member name targets ++ ms)
-reference_none name [] ms h = h
-reference_none name (t ∷ ts) ms h = (list_none string (t ∷ ts) (λ n. refl), h)
-
-pub references_none : (m : Metamodel) (targets : ℕ → List (List ℕ)) (fs : List ℕ) → HaveNone (flat_map (λ f. reference_member (feature_name m f) (targets f)) fs)
-references_none m targets [] = tt
-references_none m targets (f ∷ fs) = reference_none (feature_name m f) (targets f) _ (references_none m targets fs)
-
-pub line_none : (m : Metamodel) (g : Graph) (o : Object) → has_float (object_line m g o) ≡ false
-line_none m g o =
-    object_none (object_members m (name_in g) (edges_from g o.number) o) (
-      attrs_none m o.slots,
-      (
-        refl,
-        (
-          refl,
-          (
-            object_none (refs_members m (name_in g) (edges_from g o.number) (features_of m o.class))
-                (references_none m (targets_of (name_in g) (edges_from g o.number)) (features_of m o.class)),
-            tt,
-          ),
-        ),
-      ),
-    )
-
-pub graph_none : (m : Metamodel) (g : Graph) → has_float (graph_data m g) ≡ false
-graph_none m g = object_none (graph_members m g) (list_none (object_line m g) g.objects (line_none m g), tt)

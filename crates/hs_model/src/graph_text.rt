@@ -2,8 +2,6 @@
 
 ghost use Rattle.std.specs.Prelude.{◌≡◌, ℕ, ◌++◌, ◌∷◌, List, [], IfOk, OnOk, eqb, map, option_map, string_bytes, unwrap_or};
 ghost use Rattle.std.specs.List.{list_any};
-ghost use Rattle.std.specs.Ordering.{nat_cmp};
-ghost use Rattle.std.specs.BTreeMap.{get};
 ghost use Rattle.std.specs.Str.{IsUtf8};
 ghost use Rattle.json.specs.Print.{print};
 ghost use Rattle.json.specs.Token.{key, string};
@@ -11,7 +9,7 @@ ghost use Rattle.json.specs.Tree.{items_tokens, json_tokens};
 ghost use Rattle.serde_json.specs.Data.{Data, no_members, object, string as text_data};
 ghost use Rattle.serde_json.specs.View.{items_of};
 ghost use Rattle.serde_json.specs.Written.{compact_text, items_outline, outline};
-ghost use Rattle.hs_model.specs.ByName.{entry_members, names_by};
+ghost use Rattle.hs_model.specs.ByName.{edges_in, entry_members, names_by, object_in};
 ghost use Rattle.hs_model.specs.Written.{attrs_data, edges_from, feature_name, graph_data, list_data, object_data, object_line, object_members, reference_member, refs_members, targets_of, value_data, with_members};
 ghost use Rattle.hs_types.specs.Metamodel.{features_of};
 ghost use Rattle.hs_types.specs.TypedGraph.{object_at};
@@ -93,8 +91,8 @@ fn add_object(
     outgoing: &Outgoing,
     object: &Object,
 ) -> Result<(), AllocError>
-    ensures ok { (g : Graph) → ((n : ℕ) → option_map (λ o. o.now) (get nat_cmp objects.now n) ≡ object_at g n)
-        → ((n : ℕ) → unwrap_or (option_map (λ v. v.items) (get nat_cmp outgoing.now n)) [] ≡ edges_from g n)
+    ensures ok { (g : Graph) → ((n : ℕ) → option_map (λ o. o.now) (object_in objects.now n) ≡ object_at g n)
+        → ((n : ℕ) → edges_in outgoing.now n ≡ edges_from g n)
         → OnOk result (out.new.tokens ≡ out.old.tokens ++ json_tokens (outline (object_line meta.now g object.now))) }
     ensures before { out.new.before ≡ out.old.before }
 {

@@ -2,14 +2,13 @@
 //!
 //! [`read_meta`] gives the metamodel that a value is, and [`read_graph`] the typed graph over a
 //! metamodel; or the first fault with its path. Faults of form ([`raw_meta`], [`raw_objects`]) come
-//! before those of meaning. [`write_graph`] gives the text of a graph, [`with_graph`] puts it behind
-//! another text, and [`graph_value`] gives the value that it is the text of.
+//! before those of meaning. [`write_graph`] gives the text of a graph, and [`with_graph`] puts it behind
+//! another text.
 #![tactic(auto)]
 
 mod fault;
 mod graph;
 mod graph_form;
-mod graph_line;
 mod graph_text;
 mod index;
 mod meta;
@@ -25,7 +24,6 @@ mod words;
 pub use fault::{Fault, Wrong};
 pub use graph::{GraphFailure, read_graph};
 pub use graph_form::raw_objects;
-pub use graph_line::graph_value;
 pub use graph_text::{with_graph, write_graph};
 pub use meta::{MetaFailure, read_meta};
 pub use meta_form::raw_meta;

@@ -1,10 +1,9 @@
 use Rattle.std.proofs.Common.{◌≡◌, ℕ, take, eqb}
 use Rattle.std.specs.List.{find}
 use Rattle.std.specs.Option.{option_map}
-use Rattle.std.specs.Ordering.{nat_cmp}
-use Rattle.std.specs.BTreeMap.{get}
+use Rattle.hs_model.specs.ByName.{object_in}
 use Rattle.hs_model.proofs.index.objects_of.Given as goal
 
 -- of each number the first object so far
 abbrev pub invariant-loop-object : goal.invariant-loop-object
-invariant-loop-object l = (n : ℕ) → option_map (λ o. o.now) (get nat_cmp l.objects n) ≡ find (λ o. eqb o.number n) (take l.object-index l.object-items)
+invariant-loop-object l = (n : ℕ) → option_map (λ o. o.now) (object_in l.objects n) ≡ find (λ o. eqb o.number n) (take l.object-index l.object-items)

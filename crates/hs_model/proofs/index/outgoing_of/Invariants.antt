@@ -1,11 +1,9 @@
-use Rattle.std.proofs.Common.{◌≡◌, ℕ, [], take, eqb}
+use Rattle.std.proofs.Common.{◌≡◌, ℕ, take, eqb}
 use Rattle.std.specs.List.{filter}
-use Rattle.std.specs.Option.{option_map, unwrap_or}
-use Rattle.std.specs.Ordering.{nat_cmp}
-use Rattle.std.specs.BTreeMap.{get}
+use Rattle.hs_model.specs.ByName.{edges_in}
 use Rattle.hs_model.proofs.index.outgoing_of.Given as goal
 
 -- of each source the edges so far
 abbrev pub invariant-loop-edge : goal.invariant-loop-edge
 invariant-loop-edge l =
-    (n : ℕ) → unwrap_or (option_map (λ v. v.items) (get nat_cmp l.outgoing n)) [] ≡ filter (λ e. eqb e.source n) (take l.edge-index l.edge-items)
+    (n : ℕ) → edges_in l.outgoing n ≡ filter (λ e. eqb e.source n) (take l.edge-index l.edge-items)
