@@ -1,0 +1,8 @@
+//! What a text of rules and units means.
+#![tactic(auto)]
+
+mod block;
+mod examples;
+
+pub use block::Block;
+pub use examples::{rule_tried, units_tried};
