@@ -1,5 +1,5 @@
 -- The slots of a kernel or a multi-rule.
-use Rattle.std.specs.Prelude.{ℕ, List, [], map, Bool, false, ◌||◌, if◌then◌else◌}
+use Rattle.std.specs.Prelude.{ℕ, List, [], map, Bool, false, ◌||◌, is_some, if◌then◌else◌}
 use Rattle.std.specs.List.{filter}
 use Rattle.std.specs.Option.{option_map_or}
 use Rattle.hs_expr.specs.declared.SlotRead.{SlotRead}
@@ -9,7 +9,7 @@ use Rattle.hs_types.specs.declared.rule.PatternNode.{PatternNode}
 use Rattle.hs_types.specs.declared.rule.PatternSlot.{PatternSlot}
 use Rattle.hs_types.specs.declared.rule.SetItem.{SetItem}
 use Rattle.hs_types.specs.declared.rule.SlotKind.TheVariants.{Attribute}
-use Rattle.hs_types.specs.Metamodel.{attributes_of}
+use Rattle.hs_types.specs.Metamodel.{features_of, type_of}
 use Rattle.hs_types.specs.Pattern.{is_left}
 use Rattle.hs_types.specs.RuleForm.{is_read, is_set}
 use Rattle.hs_rules.specs.Names.{number}
@@ -26,9 +26,13 @@ slot_at sets n a = slot_with n a (is_set sets (slot_with n a false))
 abbrev pub is_used : List SlotRead → List SetItem → ℕ → ℕ → Bool
 is_used reads sets n a = is_read reads (slot_with n a false) || is_set sets (slot_with n a false)
 
+-- The slots of node n that are read or set, of the attributes among these features.
+abbrev pub slots_among : Metamodel → List SlotRead → List SetItem → ℕ → List ℕ → List PatternSlot
+slots_among m reads sets n features = map (slot_at sets n) (filter (is_used reads sets n) (filter (λ f. is_some (type_of m f)) features))
+
 -- The slots of a left node that are read or set, in the order of its class.
 abbrev pub slots_at : Metamodel → List SlotRead → List SetItem → ℕ → PatternNode → List PatternSlot
-slots_at m reads sets n node = if is_left node.mark then map (slot_at sets n) (filter (is_used reads sets n) (attributes_of m node.class)) else []
+slots_at m reads sets n node = if is_left node.mark then slots_among m reads sets n (features_of m node.class) else []
 
 -- The slots of the node at this place, which is its number.
 abbrev pub slots_of : Metamodel → List SlotRead → List SetItem → ℕ → PatternNode → List PatternSlot

@@ -30,13 +30,10 @@ use Rattle.hs_types.specs.declared.unit.Unit.{Unit as UnitMeant}
 use Rattle.hs_types.specs.Lists.{same_text}
 use Rattle.hs_rules.specs.Names.{number}
 use Rattle.hs_rules.specs.UnitFaults.{rules_of, units_of}
+use Rattle.hs_meaning.specs.declared.units.Callees.{Callees}
 use Rattle.hs_meaning.specs.Parameters.{params_meant}
 
--- The names that calls may have: those of rules and those of units, in written order.
-pub record Callees : Type 0 where
-  pub rules : List (List ℕ)
-  pub units : List (List ℕ)
-
+-- The names that calls may have, in written order.
 abbrev pub callees : List Definition → Callees
 callees definitions = record { rules = map (λ rule. rule.name.text) (rules_of definitions); units = map (λ unit. unit.name.text) (units_of definitions) }
 

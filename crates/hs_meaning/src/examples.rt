@@ -31,6 +31,15 @@ pub fn rule_tried()
     ensures multi_edges { map (λ rule. map (λ multi. multi.shape.edges) rule.multis) (rules_meant bank (hiring ∷ [])) ≡ ((an_edge Drop 0 2 ∷ []) ∷ []) ∷ [] }
 {}
 
+/// The expressions and the slots of that rule: the multi block reads a slot of the kernel, and writes one of its own.
+pub fn slots_tried()
+    ensures wheres { map (λ rule. rule.wheres) (rules_meant bank (hiring ∷ [])) ≡ (expr.Binary Greater (balance_of 0) (expr.Param 1) ∷ []) ∷ [] }
+    ensures sets { map (λ rule. rule.sets) (rules_meant bank (hiring ∷ [])) ≡ (balance_gets 1 (expr.Param 1) ∷ []) ∷ [] }
+    ensures multi_sets { map (λ rule. map (λ multi. multi.sets) rule.multis) (rules_meant bank (hiring ∷ [])) ≡ ((balance_gets 2 (balance_of 0) ∷ []) ∷ []) ∷ [] }
+    ensures slots { map (λ rule. rule.shape.slots) (rules_meant bank (hiring ∷ [])) ≡ (record { node = 0; kind = Attribute 1; written = false } ∷ []) ∷ [] }
+    ensures multi_slots { map (λ rule. map (λ multi. multi.shape.slots) rule.multis) (rules_meant bank (hiring ∷ [])) ≡ ((record { node = 2; kind = Attribute 1; written = true } ∷ []) ∷ []) ∷ [] }
+{}
+
 /// A unit that calls that rule, and one that calls the unit.
 pub fn units_tried()
     ensures { units_meant bank
@@ -40,9 +49,9 @@ pub fn units_tried()
         ∷ [])
         ≡ record { name = codes "v"; params = []; body = body.Sequential (record { callee = callee.Unit 1; binds = [] } ∷ []) }
         ∷ record {
-          name = codes "u";
-          params = record { direction = In; name = codes "x"; kind = Object 0 } ∷ [];
-          body = body.Sequential (record { callee = callee.Rule 0; binds = bind.Give (codes "a") (atom.Name (codes "x")) ∷ bind.Give (codes "n") (atom.Value (value.Int (negsuc 4))) ∷ bind.Take (codes "c") (codes "y") ∷ [] } ∷ []);
-        }
+            name = codes "u";
+            params = record { direction = In; name = codes "x"; kind = Object 0 } ∷ [];
+            body = body.Sequential (record { callee = callee.Rule 0; binds = bind.Give (codes "a") (atom.Name (codes "x")) ∷ bind.Give (codes "n") (atom.Value (value.Int (negsuc 4))) ∷ bind.Take (codes "c") (codes "y") ∷ [] } ∷ []);
+          }
         ∷ [] }
 {}

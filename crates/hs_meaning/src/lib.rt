@@ -2,7 +2,17 @@
 #![tactic(auto)]
 
 mod block;
+mod checking;
+mod elements;
 mod examples;
+mod numbered;
+mod open_nodes;
+mod parameters;
+mod rules;
+mod saying;
+mod sayings;
+mod slots;
+mod units;
 
-pub use block::Block;
-pub use examples::{rule_tried, units_tried};
+pub use checking::check;
+pub use examples::{rule_tried, slots_tried, units_tried};
