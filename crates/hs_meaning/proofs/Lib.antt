@@ -1,0 +1,10 @@
+pub mod Picked
+pub mod Silent
+pub mod Following
+pub mod Apart
+pub mod Coming
+pub mod Classed
+pub mod Opening
+pub mod Joined
+pub mod Scoped
+pub mod Slotted
