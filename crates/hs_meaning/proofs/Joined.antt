@@ -67,7 +67,7 @@ homes_same (home.Multi i) (home.Pattern j) e = cc
 homes_same (home.Multi i) (home.Multi j) e = ap home.Multi (eqb-true i j e)
 
 -- Where the class of a node is known, so is what is found through it.
-by_class : {A : Type 0} (m : Metamodel) (d : DeclaredNode) (next : ℕ → Option A) (c : ℕ) (x : A) → class_of m d ≡ Some c → option_and_then next (class_of m d) ≡ Some x → next c ≡ Some x
+pub by_class : {A : Type 0} (m : Metamodel) (d : DeclaredNode) (next : ℕ → Option A) (c : ℕ) (x : A) → class_of m d ≡ Some c → option_and_then next (class_of m d) ≡ Some x → next c ≡ Some x
 by_class m d next c x of_class e = sym (ap (option_and_then next) of_class) ∙ e
 
 -- The feature of a name in the class of a node, by the node's number.

@@ -8,3 +8,7 @@ pub mod Opening
 pub mod Joined
 pub mod Scoped
 pub mod Slotted
+pub mod Made
+pub mod Faultless
+pub mod Fitting
+pub mod Setting
