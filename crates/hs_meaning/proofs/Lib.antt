@@ -12,3 +12,4 @@ pub mod Made
 pub mod Faultless
 pub mod Fitting
 pub mod Setting
+pub mod Homes

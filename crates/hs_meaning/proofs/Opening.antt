@@ -42,7 +42,7 @@ passing true x e = refl
 passing false x e = absurd (false≢true e)
 
 -- A node is found in its own part.
-found_in : (m : Metamodel) (ds : List DeclaredNode) (part : Home) (name : List ℕ) (d : DeclaredNode) → node_named ds name ≡ Some d → same_home part d.home ≡ true → find (called name) (nodes_in m ds part) ≡ Some (node_meant m d)
+pub found_in : (m : Metamodel) (ds : List DeclaredNode) (part : Home) (name : List ℕ) (d : DeclaredNode) → node_named ds name ≡ Some d → same_home part d.home ≡ true → find (called name) (nodes_in m ds part) ≡ Some (node_meant m d)
 found_in m ds part name d found here =
     ap (find (called name)) (nodes_in-picked m ds part)
     ∙ find-filter_map (λ (node : DeclaredNode). same_text name node.name.text) (called name) (node_in m part) ds d (node_meant m d) (called_same m part name) found
