@@ -56,7 +56,7 @@ few_in ds said part e =
     let parts = and_parts (nat_le (length (filter (λ (node : DeclaredNode). same_home part node.home) ds)) 12) (nat_le (length (filter (is_edge_of part) said)) 16) e in
     record { nodes = leb-true _ 12 parts.0; edges = leb-true _ 16 parts.1 }
 
-length-mapped : {A B : Type 0} (f : A → B) (xs : List A) → length (map f xs) ≡ length xs
+pub length-mapped : {A B : Type 0} (f : A → B) (xs : List A) → length (map f xs) ≡ length xs
 length-mapped f [] = refl
 length-mapped f (x ∷ xs) = ap suc (length-mapped f xs)
 

@@ -109,6 +109,6 @@ module _ (m : Metamodel) (rule : Rule) (clean : Clean m rule) (part : Home) (bef
   wheres_fit = All-filter_map (λ (e : Expr). kind_in (scope_in m rule part before) e ≡ Some kind.Bool)
       (where_in (names_in m rule part before) part) (statements rule.items) (λ k s e at made. (where_fits k s e at made).0)
 
-  wheres_known : All (λ e. All (IsKnown (scope_in m rule part before)) (reads_of e)) (wheres_in (names_in m rule part before) (statements rule.items) part)
+  pub wheres_known : All (λ e. All (IsKnown (scope_in m rule part before)) (reads_of e)) (wheres_in (names_in m rule part before) (statements rule.items) part)
   wheres_known = All-filter_map (λ (e : Expr). All (IsKnown (scope_in m rule part before)) (reads_of e))
       (where_in (names_in m rule part before) part) (statements rule.items) (λ k s e at made. (where_fits k s e at made).1)

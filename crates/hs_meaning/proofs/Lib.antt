@@ -13,3 +13,7 @@ pub mod Faultless
 pub mod Fitting
 pub mod Setting
 pub mod Homes
+pub mod Parted
+pub mod Entitled
+pub mod Small
+pub mod Formed
