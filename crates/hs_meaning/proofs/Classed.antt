@@ -1,5 +1,5 @@
 -- Classes by tests: to which a class conforms, and of which there are objects.
-use Rattle.std.proofs.Common.{ℕ, zero, suc, ◌+◌, ◌≡◌, ◌⊎◌, inl, inr, ◌&&◌, ◌||◌, Bool, true, false, not, eqb, List, length, Option, Some, None, IsSomeAnd, refl, sym, ap, ◌∙◌, eqb-true}
+use Rattle.std.proofs.Common.{ℕ, zero, suc, ◌+◌, ◌≡◌, ◌⊎◌, inl, inr, ◌&&◌, ◌||◌, Bool, true, false, not, eqb, length, Option, Some, None, IsSomeAnd, refl, sym, eqb-true}
 use Rattle.std.proofs.lemmas.Bool.{false≢true, and_parts, or_cases}
 use Rattle.std.specs.List.{list_any, range_with_len}
 use Rattle.std.specs.Option.{option_map_or}

@@ -1,12 +1,12 @@
 -- Parameters and names of a rule without faults.
-use Rattle.std.proofs.Common.{ℕ, suc, ◌<◌, ◌≡◌, ◌&&◌, ◌++◌, List, [], ◌∷◌, Bool, true, false, cond, not, map, length, slice_get, Option, Some, None, IsSomeAnd, is_some, if◌then◌else◌, refl, ap, sym, ◌∙◌, subst, append_assoc}
+use Rattle.std.proofs.Common.{ℕ, suc, ◌≡◌, ◌++◌, List, [], ◌∷◌, Bool, true, false, cond, not, map, slice_get, Option, Some, None, is_some, if◌then◌else◌, refl, ap, sym, ◌∙◌, subst}
 use Rattle.std.proofs.lemmas.Bool.{and_parts, eq-eqb, false≢true}
 use Rattle.std.proofs.lemmas.Grind.{flat_map-append}
-use Rattle.std.proofs.lemmas.List.Elements.{All-append, All-head, All-map, All-nil, All-tail}
+use Rattle.std.proofs.lemmas.List.Elements.{All-append, All-map, All-nil}
 use Rattle.std.proofs.lemmas.Option.{same_Some}
 use Rattle.std.specs.Cmp.Lexicographic.{nat_list_eq_equiv}
-use Rattle.std.specs.List.{All, filter_map, find, flat_map}
-use Rattle.std.specs.Option.{option_map, option_map_or}
+use Rattle.std.specs.List.{All, find, flat_map}
+use Rattle.std.specs.Option.{option_map_or}
 use Rattle.hs_expr.specs.declared.Kind.{Kind}
 use Rattle.hs_expr.specs.Verdict.{each, fault_if}
 use Rattle.hs_text.specs.declared.syntax.Direction.{Direction as WrittenDirection}
@@ -16,11 +16,10 @@ use Rattle.hs_text.specs.declared.syntax.Mark.TheVariants as written
 use Rattle.hs_text.specs.declared.syntax.Param.{Param as WrittenParam}
 use Rattle.hs_text.specs.declared.syntax.Rule.{Rule as WrittenRule}
 use Rattle.hs_types.specs.declared.meta.Metamodel.{Metamodel}
-use Rattle.hs_types.specs.declared.rule.Direction.TheVariants.{In, Out}
+use Rattle.hs_types.specs.declared.rule.Direction.TheVariants.{In}
 use Rattle.hs_types.specs.declared.rule.Multi.{Multi}
 use Rattle.hs_types.specs.declared.rule.Param.{Param}
 use Rattle.hs_types.specs.declared.rule.Part.{Part}
-use Rattle.hs_types.specs.declared.rule.ParamKind.{ParamKind}
 use Rattle.hs_types.specs.declared.rule.ParamKind.TheVariants.{Data, Object}
 use Rattle.hs_types.specs.declared.rule.PatternNode.{PatternNode}
 use Rattle.hs_types.specs.Lists.{Differ, EachPair, same_text}
@@ -41,7 +40,6 @@ use Rattle.hs_meaning.proofs.Joined.{homes_same}
 use Rattle.hs_meaning.proofs.Opening.{called, found_in, kernel_home, node_in, node_made, nodes_in-picked}
 use Rattle.hs_meaning.proofs.Parted.{kernel_of}
 use Rattle.hs_meaning.proofs.Picked.{All-at, All-filter_map, All-from, EachPair-append, EachPair-filter_map, EachPair-from, EachPair-map}
-use Rattle.hs_meaning.proofs.Scoped.{data_meant}
 use Rattle.hs_meaning.proofs.Silent.{Clean, empty_parts, no_test, yes_test}
 
 -- ---- parameters

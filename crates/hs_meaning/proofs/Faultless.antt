@@ -1,22 +1,20 @@
 -- What a rule without faults has: few of everything, and nodes that its parts find by name.
-use Rattle.std.proofs.Common.{ℕ, suc, ◌+◌, ◌≤◌, ◌≡◌, ◌&&◌, ◌++◌, List, [], ◌∷◌, Bool, true, false, nat_le, length, map, slice_get, Option, Some, refl, ap, sym, ◌∙◌, subst, arith, rules, length-append}
+use Rattle.std.proofs.Common.{ℕ, suc, ◌+◌, ◌≤◌, ◌≡◌, List, [], ◌∷◌, true, false, nat_le, length, map, Option, Some, refl, ap, sym, ◌∙◌, subst, arith, length-append}
 use Rattle.std.proofs.lemmas.Bool.{and_parts, leb-true}
-use Rattle.std.specs.List.{All, filter, list_all}
+use Rattle.std.specs.List.{filter, list_all}
 use Rattle.std.specs.Option.{unwrap_or}
 use Rattle.hs_text.specs.declared.syntax.Rule.{Rule}
 use Rattle.hs_types.specs.declared.meta.Metamodel.{Metamodel}
-use Rattle.hs_types.specs.declared.rule.PatternNode.{PatternNode}
 use Rattle.hs_rules.specs.declared.nodes.DeclaredNode.{DeclaredNode}
 use Rattle.hs_rules.specs.declared.nodes.Home.{Home}
 use Rattle.hs_rules.specs.declared.nodes.Home.TheVariants as home
 use Rattle.hs_rules.specs.Depths.{is_flat}
-use Rattle.hs_rules.specs.FourthPass.{blocks, has_few, has_few_alike, is_edge_of, is_multi, is_pattern, keeps_limits, sizes_fit}
+use Rattle.hs_rules.specs.FourthPass.{blocks, has_few, has_few_alike, is_edge_of, is_multi, is_pattern, sizes_fit}
 use Rattle.hs_rules.specs.Nodes.{declared_nodes}
 use Rattle.hs_rules.specs.SecondPass.{is_kernel}
 use Rattle.hs_rules.specs.Statements.{Statement, statements}
 use Rattle.hs_rules.specs.ThirdPass.{same_home}
 use Rattle.hs_meaning.specs.Elements.{node_meant, nodes_in}
-use Rattle.hs_meaning.specs.Parameters.{class_meant}
 use Rattle.hs_meaning.proofs.Opening.{AllClassed, Opens, opens_block, opens_kernel}
 use Rattle.hs_meaning.proofs.Silent.{Clean}
 

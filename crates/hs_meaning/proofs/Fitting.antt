@@ -1,49 +1,38 @@
 -- What a part of a rule means fits: its nodes, edges, conditions and sets.
-use Rattle.std.proofs.Common.{ℕ, zero, suc, ◌<◌, ◌≤◌, ◌≡◌, ◌&&◌, ◌||◌, ◌++◌, List, [], ◌∷◌, Bool, true, false, not, length, take, slice_get, Option, Some, None, IsSomeAnd, is_some, Ok, refl, ap, sym, ◌∙◌, subst}
-use Rattle.std.proofs.lemmas.Bool.{and_from, and_parts, false≢true, or_left, or_right}
-use Rattle.std.proofs.lemmas.List.Elements.{All-append, All-cons, All-head, All-nil, All-tail}
-use Rattle.std.proofs.lemmas.List.Folds.{list_any-append}
-use Rattle.std.proofs.lemmas.Option.{none-some, same_Some}
-use Rattle.std.specs.List.{All, filter, filter_map, flat_map, list_any}
-use Rattle.std.specs.Option.{option_map, option_map_or}
+use Rattle.std.proofs.Common.{ℕ, ◌≡◌, ◌&&◌, ◌||◌, ◌++◌, List, Bool, true, false, not, take, slice_get, Option, Some, Ok, refl, ap, sym, ◌∙◌, subst}
+use Rattle.std.proofs.lemmas.Bool.{and_parts, false≢true}
+use Rattle.std.specs.List.{All, flat_map}
+use Rattle.std.specs.Option.{option_map_or}
 use Rattle.hs_eval.specs.Checking.{Names}
 use Rattle.hs_expr.specs.declared.Expr.{Expr}
-use Rattle.hs_expr.specs.declared.Kind.{Kind}
 use Rattle.hs_expr.specs.declared.Kind.TheVariants as kind
-use Rattle.hs_expr.specs.declared.SlotRead.{SlotRead}
-use Rattle.hs_expr.specs.Evaluation.{Scope, kind_in, nesting, reads_of}
+use Rattle.hs_expr.specs.Evaluation.{Scope, kind_in, reads_of}
 use Rattle.hs_text.specs.declared.syntax.Mark.{Mark as WrittenMark}
 use Rattle.hs_text.specs.declared.syntax.Mark.TheVariants as written
 use Rattle.hs_text.specs.declared.syntax.Rule.{Rule}
 use Rattle.hs_types.specs.declared.meta.Metamodel.{Metamodel}
 use Rattle.hs_types.specs.declared.rule.PatternEdge.{PatternEdge}
 use Rattle.hs_types.specs.declared.rule.PatternNode.{PatternNode}
-use Rattle.hs_types.specs.declared.rule.SetItem.{SetItem}
-use Rattle.hs_types.specs.Limits.{AreFlat}
-use Rattle.hs_types.specs.Lists.{has, same_text}
-use Rattle.hs_types.specs.Metamodel.{IsConcrete, attributes_of, features_of, kind_of_type, type_of}
-use Rattle.hs_types.specs.Pattern.{is_drop, is_make}
-use Rattle.hs_types.specs.RuleForm.{EdgeFits, NodeFits, SetFits, SetOnce, reads_in}
+use Rattle.hs_types.specs.Pattern.{is_make}
+use Rattle.hs_types.specs.RuleForm.{EdgeFits, NodeFits}
 use Rattle.hs_rules.specs.declared.nodes.DeclaredNode.{DeclaredNode}
 use Rattle.hs_rules.specs.declared.nodes.Home.{Home}
 use Rattle.hs_rules.specs.FirstPass.{is_created}
-use Rattle.hs_rules.specs.Names.{has_concrete, is_concrete, is_named}
+use Rattle.hs_rules.specs.Names.{has_concrete, is_concrete}
 use Rattle.hs_rules.specs.Nodes.{declared_nodes}
-use Rattle.hs_rules.specs.Statements.{Statement, Edge, Set, Where, statements}
-use Rattle.hs_rules.specs.ThirdPass.{Slot, is_deleted, names_from, slot_of, statement_checked}
-use Rattle.hs_meaning.specs.Elements.{edge_in, edges_in, mark_meant, node_meant, node_number, nodes_in}
-use Rattle.hs_meaning.specs.Expressions.{numbered, set_in, set_meant, sets_in, where_in, wheres_in}
+use Rattle.hs_rules.specs.Statements.{Statement, statements}
+use Rattle.hs_rules.specs.ThirdPass.{names_from, slot_of, statement_checked}
+use Rattle.hs_meaning.specs.Elements.{edge_in, edges_in, mark_meant, node_meant, nodes_in}
+use Rattle.hs_meaning.specs.Expressions.{numbered, where_in, wheres_in}
 use Rattle.hs_meaning.specs.Parameters.{class_meant, params_meant}
-use Rattle.hs_meaning.proofs.Apart.{is_text}
 use Rattle.hs_meaning.proofs.Classed.{concrete, have_common}
-use Rattle.hs_meaning.proofs.Coming.{found-has, has-kept}
 use Rattle.hs_meaning.proofs.Following.{IsKnown}
-use Rattle.hs_meaning.proofs.Joined.{edge_fits, end_test, node_at_spot, number_at_spot}
-use Rattle.hs_meaning.proofs.Made.{AttributeSpot, SetMade, attribute_spot, edge_made, expr_fits, expr_flat, features_same, nodes_same, set_made, where_made}
+use Rattle.hs_meaning.proofs.Joined.{edge_fits, end_test}
+use Rattle.hs_meaning.proofs.Made.{edge_made, expr_fits, where_made}
 use Rattle.hs_meaning.proofs.Opening.{Opens, node_in, node_made, nodes_in-picked}
-use Rattle.hs_meaning.proofs.Picked.{All-filter_map, EachPair-filter_map, slice_get-take}
+use Rattle.hs_meaning.proofs.Picked.{All-filter_map}
 use Rattle.hs_meaning.proofs.Scoped.{follow, scope_with}
-use Rattle.hs_meaning.proofs.Silent.{Clean, SoundSet, sound_set, sound_where}
+use Rattle.hs_meaning.proofs.Silent.{Clean, sound_where}
 
 -- The nodes that a part of a rule may name, behind those before its own.
 abbrev pub open_nodes : Metamodel → Rule → Home → List PatternNode → List PatternNode

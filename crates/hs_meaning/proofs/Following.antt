@@ -1,5 +1,5 @@
 -- An expression over names that stand for numbers, beside the same over names that stand for classes.
-use Rattle.std.proofs.Common.{ℕ, ◌≤◌, ◌≡◌, ◌++◌, List, [], ◌∷◌, Bool, true, false, Option, Some, None, Result, Ok, Err, is_some, refl, sym, ap, ap₂, subst, ◌∙◌}
+use Rattle.std.proofs.Common.{ℕ, ◌≡◌, List, [], Bool, true, Some, Ok, is_some, refl, sym, ap, ap₂, subst, ◌∙◌}
 use Rattle.std.proofs.lemmas.List.Elements.{All-append, All-cons, All-nil}
 use Rattle.std.specs.List.{All}
 use Rattle.std.specs.Option.{option_and_then}
@@ -15,11 +15,8 @@ use Rattle.hs_expr.specs.declared.Value.{Value}
 use Rattle.hs_expr.specs.declared.Value.TheVariants as value
 use Rattle.hs_expr.specs.Evaluation.{Scope, kind_in, kind_joined, kind_negated, kind_opposite, reads_of}
 use Rattle.hs_expr.proofs.Evaluations.{kind_in-Binary, kind_in-Literal, kind_in-Minus, kind_in-Not, kind_in-Param, kind_in-Slot, reads_of-Binary, reads_of-Literal, reads_of-Minus, reads_of-Not, reads_of-Param, reads_of-Slot}
-use Rattle.hs_expr.specs.Steps.{◌>>=◌, demand, needed}
 use Rattle.hs_text.specs.Trees.{Tree, Leaf, Not, Minus, Binary}
-use Rattle.hs_eval.specs.declared.fault.ExprFault.{ExprFault}
-use Rattle.hs_eval.specs.declared.fault.Wrong.TheVariants.{NotRead}
-use Rattle.hs_eval.specs.Checking.{Names, Outcome, attribute_read, checked, leaf, param_read, slot_read, wrong_at}
+use Rattle.hs_eval.specs.Checking.{Names, Outcome, checked, leaf, slot_read}
 use Rattle.hs_meaning.proofs.Silent.{demand-ok, needed-ok, steps-ok}
 
 -- What a name stands for has, by numbers, the kind that it has by classes, and so it has in the scope.

@@ -1,13 +1,11 @@
 -- A rule without faults means a rule over the metamodel, within the limits.
-use Rattle.std.proofs.Common.{ℕ, ◌≡◌, List, [], map, true, slice_get, Some}
+use Rattle.std.proofs.Common.{◌≡◌, List, [], map, true}
 use Rattle.std.proofs.lemmas.List.Elements.{All-map, All-weaker}
-use Rattle.std.specs.List.{All, flat_map}
+use Rattle.std.specs.List.{All}
 use Rattle.hs_expr.specs.Verdict.{each}
 use Rattle.hs_text.specs.declared.syntax.Definition.{Definition}
 use Rattle.hs_text.specs.declared.syntax.Rule.{Rule as WrittenRule}
 use Rattle.hs_types.specs.declared.meta.Metamodel.{Metamodel}
-use Rattle.hs_types.specs.declared.rule.Multi.{Multi}
-use Rattle.hs_types.specs.declared.rule.Part.{Part}
 use Rattle.hs_types.specs.declared.rule.Rule.{Rule}
 use Rattle.hs_types.specs.Limits.{IsSmallRule}
 use Rattle.hs_types.specs.Metamodel.{IsMeta}

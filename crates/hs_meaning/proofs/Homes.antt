@@ -1,9 +1,9 @@
 -- The blocks of a rule: they differ, and what stands in a forbid or require block is preserved.
-use Rattle.std.proofs.Common.{ℕ, zero, suc, ◌+◌, ◌<◌, ◌≤◌, ◌≡◌, ◌⊎◌, inl, inr, ◌&&◌, ◌++◌, List, [], ◌∷◌, Bool, true, false, cond, eqb, length, slice_get, Option, Some, refl, ap, sym, ◌∙◌, subst, arith}
-use Rattle.std.proofs.lemmas.Bool.{and_parts, cases_eq, cases_order, false≢true, ne_eqb}
+use Rattle.std.proofs.Common.{ℕ, suc, ◌+◌, ◌≡◌, inl, inr, ◌&&◌, ◌++◌, List, [], ◌∷◌, Bool, true, false, length, slice_get, Some, refl, ap, sym, ◌∙◌, arith}
+use Rattle.std.proofs.lemmas.Bool.{and_parts, cases_eq, false≢true, ne_eqb}
 use Rattle.std.proofs.lemmas.List.Elements.{All-append, All-cons, All-nil, All-weaker}
 use Rattle.std.proofs.lemmas.Option.{same_Some}
-use Rattle.std.specs.List.{All, filter, flat_map, list_all}
+use Rattle.std.specs.List.{All, filter, list_all}
 use Rattle.hs_expr.specs.Verdict.{each, each_from}
 use Rattle.hs_text.specs.declared.syntax.Element.{Element}
 use Rattle.hs_text.specs.declared.syntax.Element.TheVariants as element
@@ -17,7 +17,7 @@ use Rattle.hs_types.specs.Lists.{EachPair}
 use Rattle.hs_rules.specs.declared.nodes.DeclaredNode.{DeclaredNode}
 use Rattle.hs_rules.specs.declared.nodes.Home.{Home}
 use Rattle.hs_rules.specs.declared.nodes.Home.TheVariants.{Kernel, Pattern, Multi}
-use Rattle.hs_rules.specs.FourthPass.{block_of, blocks, is_multi, is_pattern}
+use Rattle.hs_rules.specs.FourthPass.{block_of, is_multi, is_pattern}
 use Rattle.hs_rules.specs.Nodes.{declared_nodes, node_of_element, node_of_simple, nodes_of_item}
 use Rattle.hs_rules.specs.Statements.{Statement, Edge, Set, Where, statement_of_element, statement_of_simple, statements, statements_of_item}
 use Rattle.hs_rules.specs.ThirdPass.{same_home}

@@ -1,8 +1,6 @@
 -- Edges that a part of a rule means: they join nodes that they may join.
-use Rattle.std.proofs.Common.{ℕ, ◌≡◌, ◌++◌, List, Bool, true, false, eqb, slice_get, Option, Some, None, IsSomeAnd, Ok, refl, ap, sym, ◌∙◌, subst, eqb-true}
-use Rattle.std.proofs.lemmas.Bool.{false≢true}
-use Rattle.std.proofs.lemmas.Option.{none-some, same_Some}
-use Rattle.std.specs.List.{find, position_or_len}
+use Rattle.std.proofs.Common.{ℕ, ◌≡◌, ◌++◌, List, Bool, true, slice_get, Option, Some, Ok, refl, ap, sym, ◌∙◌, eqb-true}
+use Rattle.std.specs.List.{position_or_len}
 use Rattle.std.specs.Option.{option_and_then, unwrap_or}
 use Rattle.hs_expr.specs.declared.Name.{Name}
 use Rattle.hs_text.specs.declared.syntax.Mark.{Mark as WrittenMark}
@@ -19,8 +17,8 @@ use Rattle.hs_types.specs.RuleForm.{EdgeFits, joins}
 use Rattle.hs_rules.specs.declared.nodes.DeclaredNode.{DeclaredNode}
 use Rattle.hs_rules.specs.declared.nodes.Home.{Home}
 use Rattle.hs_rules.specs.declared.nodes.Home.TheVariants as home
-use Rattle.hs_rules.specs.Names.{class_named, feature_named, is_named, target_named}
-use Rattle.hs_rules.specs.ThirdPass.{class_of, edge_checked, is_of_class, may_join, open_node, same_home, target_from}
+use Rattle.hs_rules.specs.Names.{feature_named, is_named, target_named}
+use Rattle.hs_rules.specs.ThirdPass.{class_of, edge_checked, may_join, same_home}
 use Rattle.hs_meaning.specs.Elements.{edge_meant, feature_found, feature_number, mark_meant, node_meant, node_number, nodes_in}
 use Rattle.hs_meaning.specs.Parameters.{class_meant}
 use Rattle.hs_meaning.proofs.Classed.{does_conform}

@@ -1,11 +1,10 @@
 -- Statements that mean something in a part of a rule, and what is found through their names.
-use Rattle.std.proofs.Common.{ℕ, ◌≤◌, ◌≡◌, ◌++◌, List, [], ◌∷◌, Bool, true, false, slice_get, Option, Some, None, Result, Ok, Err, if◌then◌else◌, nat_le, refl, ap, sym, ◌∙◌, subst}
+use Rattle.std.proofs.Common.{ℕ, ◌≤◌, ◌≡◌, List, true, false, slice_get, Option, Some, None, Ok, Err, nat_le, ap, sym, ◌∙◌, subst}
 use Rattle.std.proofs.lemmas.Bool.{leb-true}
 use Rattle.std.proofs.lemmas.Option.{none-some, same_Some}
-use Rattle.std.specs.List.{All, find, position_or_len}
-use Rattle.std.specs.Option.{option_and_then, option_map, option_map_or, unwrap_or}
+use Rattle.std.specs.List.{All, position_or_len}
+use Rattle.std.specs.Option.{option_map, option_map_or, unwrap_or}
 use Rattle.hs_eval.specs.Checking.{Names, Outcome, checked}
-use Rattle.hs_eval.specs.Keeping.{kept}
 use Rattle.hs_expr.specs.declared.Expr.{Expr}
 use Rattle.hs_expr.specs.declared.Kind.{Kind}
 use Rattle.hs_expr.specs.declared.Name.{Name}
@@ -13,7 +12,7 @@ use Rattle.hs_expr.specs.declared.NameExpr.{NameExpr}
 use Rattle.hs_expr.specs.declared.Span.{Span}
 use Rattle.hs_expr.specs.Evaluation.{Scope, kind_in, nesting, reads_of}
 use Rattle.hs_text.specs.declared.syntax.Mark.{Mark as WrittenMark}
-use Rattle.hs_text.specs.Trees.{Tree, tree_of}
+use Rattle.hs_text.specs.Trees.{tree_of}
 use Rattle.hs_types.specs.declared.meta.DataType.{DataType}
 use Rattle.hs_types.specs.declared.meta.Feature.{Feature}
 use Rattle.hs_types.specs.declared.meta.Metamodel.{Metamodel}
@@ -27,7 +26,7 @@ use Rattle.hs_rules.specs.declared.nodes.DeclaredNode.{DeclaredNode}
 use Rattle.hs_rules.specs.declared.nodes.Home.{Home}
 use Rattle.hs_rules.specs.Names.{feature_named, is_named, kind_named, type_named}
 use Rattle.hs_rules.specs.Statements.{Statement, Edge, Set, Where}
-use Rattle.hs_rules.specs.ThirdPass.{attribute_kind, class_of, same_home}
+use Rattle.hs_rules.specs.ThirdPass.{attribute_kind, same_home}
 use Rattle.hs_meaning.specs.Elements.{edge_in, edge_meant, feature_number, mark_meant, node_meant, node_number}
 use Rattle.hs_meaning.specs.Expressions.{expr_found, expr_meant, numbered, set_in, set_meant, where_in}
 use Rattle.hs_meaning.specs.Parameters.{class_meant}

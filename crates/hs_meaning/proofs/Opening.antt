@@ -1,11 +1,10 @@
 -- The nodes that a part of a rule may name, by their numbers there.
-use Rattle.std.proofs.Common.{ℕ, ◌+◌, ◌<◌, ◌≤◌, ◌≡◌, ◌⊎◌, ◌||◌, ◌++◌, List, [], ◌∷◌, Bool, true, false, cond, nat_lt, length, slice_get, Option, Some, None, is_some, refl, ap, sym, ◌∙◌, subst, inl, inr, arith, rules}
+use Rattle.std.proofs.Common.{ℕ, ◌<◌, ◌≤◌, ◌≡◌, ◌⊎◌, ◌++◌, List, [], Bool, true, false, cond, nat_lt, length, slice_get, Option, Some, None, refl, ap, sym, ◌∙◌, inl, inr, arith}
 use Rattle.std.proofs.lemmas.Bool.{cases_Bool, cond-true, false≢true, lt-ltb, or_cases}
 use Rattle.std.proofs.lemmas.List.Folds.{find-append, find_at}
 use Rattle.std.proofs.lemmas.Option.{slice_get_within}
-use Rattle.std.specs.List.{All, filter, filter_map, find, position, position_or_len}
-use Rattle.std.specs.Option.{option_and_then, option_map, option_or}
-use Rattle.hs_expr.specs.declared.Name.{Name}
+use Rattle.std.specs.List.{filter_map, find, position, position_or_len}
+use Rattle.std.specs.Option.{option_and_then, option_or}
 use Rattle.hs_types.specs.declared.meta.Metamodel.{Metamodel}
 use Rattle.hs_types.specs.declared.rule.PatternNode.{PatternNode}
 use Rattle.hs_types.specs.Lists.{same_text}
@@ -14,7 +13,7 @@ use Rattle.hs_rules.specs.declared.nodes.Home.{Home}
 use Rattle.hs_rules.specs.declared.nodes.Home.TheVariants as home
 use Rattle.hs_rules.specs.Names.{class_named, node_named, number}
 use Rattle.hs_rules.specs.SecondPass.{is_kernel}
-use Rattle.hs_rules.specs.ThirdPass.{class_of, is_open, open_node, same_home}
+use Rattle.hs_rules.specs.ThirdPass.{open_node, same_home}
 use Rattle.hs_meaning.specs.Elements.{node_found, node_meant, nodes_in}
 use Rattle.hs_meaning.specs.Parameters.{class_meant}
 use Rattle.hs_meaning.proofs.Apart.{HaveOwn, only_one, opened}

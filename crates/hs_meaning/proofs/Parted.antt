@@ -1,18 +1,16 @@
 -- The kernel, the parts and the multi-rules that a rule without faults means.
-use Rattle.std.proofs.Common.{ℕ, zero, suc, ◌+◌, ◌<◌, ◌≤◌, ◌≡◌, ◌&&◌, ◌||◌, ◌++◌, List, [], ◌∷◌, Bool, true, false, cond, eqb, nat_lt, map, length, slice_get, Option, Some, None, is_some, if◌then◌else◌, refl, ap, sym, ◌∙◌, subst, arith}
+use Rattle.std.proofs.Common.{ℕ, zero, suc, ◌+◌, ◌<◌, ◌≡◌, ◌&&◌, ◌||◌, ◌++◌, List, [], ◌∷◌, Bool, true, false, cond, eqb, nat_lt, map, length, slice_get, Option, None, is_some, if◌then◌else◌, refl, ap, sym, ◌∙◌, subst, arith}
 use Rattle.std.proofs.lemmas.Bool.{and_parts, eqb-true, false≢true, lt-ltb, ltb-true}
 use Rattle.std.proofs.lemmas.List.Elements.{All-append, All-cons, All-head, All-map, All-nil, All-tail, All-weaker}
-use Rattle.std.specs.List.{All, filter, filter_map, flat_map, list_any}
+use Rattle.std.specs.List.{All, filter, flat_map, list_any}
 use Rattle.std.specs.Option.{option_and_then, option_map}
-use Rattle.hs_expr.specs.declared.Expr.{Expr}
 use Rattle.hs_expr.specs.declared.SlotRead.{SlotRead}
-use Rattle.hs_expr.specs.Evaluation.{Scope, reads_of}
+use Rattle.hs_expr.specs.Evaluation.{reads_of}
 use Rattle.hs_expr.specs.Verdict.{each}
 use Rattle.hs_text.specs.declared.syntax.Mark.TheVariants.{Preserve}
 use Rattle.hs_text.specs.declared.syntax.Rule.{Rule as WrittenRule}
 use Rattle.hs_types.specs.declared.meta.Metamodel.{Metamodel}
 use Rattle.hs_types.specs.declared.rule.Multi.{Multi}
-use Rattle.hs_types.specs.declared.rule.Part.{Part}
 use Rattle.hs_types.specs.declared.rule.PatternEdge.{PatternEdge}
 use Rattle.hs_types.specs.declared.rule.PatternNode.{PatternNode}
 use Rattle.hs_types.specs.declared.rule.SetItem.{SetItem}
@@ -27,15 +25,15 @@ use Rattle.hs_rules.specs.declared.nodes.Home.TheVariants as home
 use Rattle.hs_rules.specs.FourthPass.{has_few, is_multi, is_pattern}
 use Rattle.hs_rules.specs.Nodes.{declared_nodes}
 use Rattle.hs_rules.specs.SecondPass.{is_kernel}
-use Rattle.hs_rules.specs.Statements.{Statement, statements}
+use Rattle.hs_rules.specs.Statements.{statements}
 use Rattle.hs_meaning.specs.Elements.{edge_in, edges_in, mark_meant, node_meant, nodes_in}
 use Rattle.hs_meaning.specs.Expressions.{sets_in, wheres_in}
 use Rattle.hs_meaning.specs.Parameters.{params_meant}
-use Rattle.hs_meaning.specs.Rules.{forbid_at, multi_at, multi_meant, part_meant, require_at, rule_meant, sayings}
+use Rattle.hs_meaning.specs.Rules.{multi_at, multi_meant, part_meant, rule_meant, sayings}
 use Rattle.hs_meaning.proofs.Faultless.{block_opens, few_nodes, few_open, is_few, kernel_opens}
 use Rattle.hs_meaning.proofs.Fitting.{edges_fit, names_in, nodes_fit, open_nodes, scope_in, wheres_fit, wheres_known}
 use Rattle.hs_meaning.proofs.Following.{IsKnown}
-use Rattle.hs_meaning.proofs.Homes.{KeepsEdge, KeepsNode, are_multis, are_patterns_forbid, are_patterns_require, each_passes, edges_keep, forbid_passes, multi_passes, nodes_keep, require_passes}
+use Rattle.hs_meaning.proofs.Homes.{KeepsEdge, KeepsNode, are_multis, edges_keep, nodes_keep}
 use Rattle.hs_meaning.proofs.Joined.{end_test, homes_same}
 use Rattle.hs_meaning.proofs.Made.{edge_made}
 use Rattle.hs_meaning.proofs.Opening.{Opens, node_in, node_made, nodes_in-picked}

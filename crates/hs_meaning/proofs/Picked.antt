@@ -1,9 +1,9 @@
 -- Items of lists: what is picked out of a list, what is made of each, and what is found by a test.
-use Rattle.std.proofs.Common.{ℕ, zero, suc, ◌+◌, ◌<◌, ◌≤◌, ◌≡◌, ◌⊎◌, ◌++◌, List, [], ◌∷◌, Bool, true, false, not, cond, map, length, take, get_or, slice_get, Option, Some, None, is_some, refl, ap, sym, ◌∙◌, subst, arith, inl, inr, add-zero}
-use Rattle.std.proofs.lemmas.Bool.{cases_order, false≢true}
+use Rattle.std.proofs.Common.{ℕ, zero, suc, ◌+◌, ◌<◌, ◌≤◌, ◌≡◌, ◌++◌, List, [], ◌∷◌, Bool, true, false, not, cond, map, length, take, get_or, slice_get, Option, Some, None, is_some, refl, ap, sym, ◌∙◌, subst, arith, add-zero}
+use Rattle.std.proofs.lemmas.Bool.{false≢true}
 use Rattle.std.proofs.lemmas.List.Elements.{All-append, All-cons, All-head, All-nil, All-tail}
 use Rattle.std.proofs.lemmas.Option.{get_or_from_slice_get, none-some, same_Some, slice_get-get_or, slice_get_within}
-use Rattle.std.specs.List.{All, cons_option, filter, filter_map, find, flat_map, position, position_or_len}
+use Rattle.std.specs.List.{All, cons_option, filter, filter_map, find, flat_map, position_or_len}
 use Rattle.hs_expr.specs.Verdict.{each_from}
 use Rattle.hs_types.specs.Lists.{EachPair}
 

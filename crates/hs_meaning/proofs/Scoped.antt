@@ -1,11 +1,10 @@
 -- What names stand for in the expressions of a part of a rule: by numbers they have the kinds that they have by classes.
-use Rattle.std.proofs.Common.{ℕ, ◌≡◌, ◌&&◌, ◌||◌, ◌++◌, List, [], ◌∷◌, Bool, true, false, cond, length, map, nat_lt, slice_get, Option, Some, None, is_some, if◌then◌else◌, refl, ap, sym, ◌∙◌, subst}
+use Rattle.std.proofs.Common.{ℕ, ◌≡◌, ◌&&◌, ◌++◌, List, [], ◌∷◌, Bool, true, false, cond, length, map, nat_lt, slice_get, Option, Some, None, if◌then◌else◌, refl, ap, sym, ◌∙◌, subst}
 use Rattle.std.proofs.lemmas.Bool.{cond-false, cond-true}
 use Rattle.std.proofs.lemmas.List.Folds.{find_at}
 use Rattle.std.proofs.lemmas.Option.{cond_some, none-some, same_Some}
 use Rattle.std.specs.List.{find, position, position_or_len}
 use Rattle.std.specs.Option.{option_and_then, option_map, option_map_or}
-use Rattle.hs_eval.specs.Checking.{Names}
 use Rattle.hs_expr.specs.declared.Kind.{Kind}
 use Rattle.hs_expr.specs.Evaluation.{Scope}
 use Rattle.hs_text.specs.declared.syntax.Direction.{Direction as WrittenDirection}
@@ -13,21 +12,19 @@ use Rattle.hs_text.specs.declared.syntax.Direction.TheVariants as direction
 use Rattle.hs_text.specs.declared.syntax.Mark.{Mark as WrittenMark}
 use Rattle.hs_text.specs.declared.syntax.Mark.TheVariants as written
 use Rattle.hs_text.specs.declared.syntax.Param.{Param as WrittenParam}
-use Rattle.hs_types.specs.declared.meta.DataType.{DataType}
 use Rattle.hs_types.specs.declared.meta.Metamodel.{Metamodel}
 use Rattle.hs_types.specs.declared.rule.Param.{Param}
-use Rattle.hs_types.specs.declared.rule.ParamKind.{ParamKind}
 use Rattle.hs_types.specs.declared.rule.ParamKind.TheVariants.{Data, Object}
 use Rattle.hs_types.specs.declared.rule.PatternNode.{PatternNode}
 use Rattle.hs_types.specs.Lists.{has, same_text}
-use Rattle.hs_types.specs.Metamodel.{attributes_of, features_of, kind_of_type, type_of}
+use Rattle.hs_types.specs.Metamodel.{attributes_of, kind_of_type, type_of}
 use Rattle.hs_types.specs.Pattern.{is_left}
 use Rattle.hs_types.specs.RuleForm.{data_kind, slot_kind}
 use Rattle.hs_rules.specs.declared.nodes.DeclaredNode.{DeclaredNode}
 use Rattle.hs_rules.specs.declared.nodes.Home.{Home}
 use Rattle.hs_rules.specs.declared.nodes.Home.TheVariants as home
 use Rattle.hs_rules.specs.Named.{first_named}
-use Rattle.hs_rules.specs.Names.{class_named, data_named, feature_named, kind_named, node_named, number}
+use Rattle.hs_rules.specs.Names.{data_named, feature_named, kind_named, node_named, number}
 use Rattle.hs_rules.specs.ThirdPass.{can_read, class_of, is_left as is_left_written, is_open, names_from, node_read, open_node, param_seen, shut_read}
 use Rattle.hs_meaning.specs.Elements.{feature_found, mark_meant, node_found, node_meant, nodes_in}
 use Rattle.hs_meaning.specs.Expressions.{attribute_numbered, data_at, node_numbered, numbered, param_found, param_numbered}

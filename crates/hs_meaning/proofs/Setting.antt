@@ -1,11 +1,10 @@
 -- The sets of a part of a rule: each fits, and no slot is set twice.
-use Rattle.std.proofs.Common.{ℕ, zero, suc, ◌<◌, ◌≤◌, ◌≡◌, ◌&&◌, ◌||◌, ◌++◌, List, [], ◌∷◌, Bool, true, false, not, length, take, slice_get, Option, Some, None, IsSomeAnd, is_some, Ok, refl, ap, ap₂, sym, ◌∙◌, subst}
+use Rattle.std.proofs.Common.{ℕ, zero, suc, ◌<◌, ◌≤◌, ◌≡◌, ◌&&◌, ◌||◌, List, [], ◌∷◌, Bool, true, false, not, length, take, slice_get, Some, is_some, refl, ap, sym, ◌∙◌, subst}
 use Rattle.std.proofs.lemmas.Bool.{and_from, false≢true, or_left, or_right}
 use Rattle.std.proofs.lemmas.List.Folds.{list_any-append}
 use Rattle.std.proofs.lemmas.Option.{none-some, same_Some}
-use Rattle.std.specs.List.{All, flat_map, list_any, position_or_len}
+use Rattle.std.specs.List.{All, flat_map, list_any}
 use Rattle.std.specs.Option.{option_map}
-use Rattle.hs_expr.specs.declared.Expr.{Expr}
 use Rattle.hs_expr.specs.Evaluation.{Scope, kind_in, reads_of}
 use Rattle.hs_text.specs.declared.syntax.Mark.{Mark as WrittenMark}
 use Rattle.hs_text.specs.declared.syntax.Mark.TheVariants as written
@@ -17,13 +16,12 @@ use Rattle.hs_types.specs.Lists.{has, same_text}
 use Rattle.hs_types.specs.Metamodel.{attributes_of, features_of, kind_of_type, type_of}
 use Rattle.hs_types.specs.Pattern.{is_drop}
 use Rattle.hs_types.specs.RuleForm.{SetFits, SetOnce}
-use Rattle.hs_rules.specs.declared.nodes.DeclaredNode.{DeclaredNode}
 use Rattle.hs_rules.specs.declared.nodes.Home.{Home}
 use Rattle.hs_rules.specs.Names.{is_named}
 use Rattle.hs_rules.specs.Nodes.{declared_nodes}
-use Rattle.hs_rules.specs.Statements.{Statement, Edge, Set, Where, statements}
+use Rattle.hs_rules.specs.Statements.{Statement, statements}
 use Rattle.hs_rules.specs.ThirdPass.{Slot, is_deleted, is_set, names_from, slot_of}
-use Rattle.hs_meaning.specs.Elements.{mark_meant, node_meant, node_number, nodes_in}
+use Rattle.hs_meaning.specs.Elements.{mark_meant, node_meant, node_number}
 use Rattle.hs_meaning.specs.Expressions.{set_in, set_meant, sets_in}
 use Rattle.hs_meaning.specs.Parameters.{class_meant, params_meant}
 use Rattle.hs_meaning.proofs.Apart.{is_text}
@@ -32,7 +30,7 @@ use Rattle.hs_meaning.proofs.Fitting.{IsRight, names_in, open_nodes, scope_in}
 use Rattle.hs_meaning.proofs.Following.{IsKnown}
 use Rattle.hs_meaning.proofs.Joined.{node_at_spot, number_at_spot}
 use Rattle.hs_meaning.proofs.Made.{AttributeSpot, SetMade, attribute_spot, expr_fits, features_same, nodes_same, set_made}
-use Rattle.hs_meaning.proofs.Opening.{Opens, Spot, called}
+use Rattle.hs_meaning.proofs.Opening.{Opens, Spot}
 use Rattle.hs_meaning.proofs.Picked.{All-filter_map, EachPair-filter_map, slice_get-take}
 use Rattle.hs_meaning.proofs.Scoped.{follow}
 use Rattle.hs_meaning.proofs.Silent.{Clean, SoundSet, sound_set}

@@ -1,11 +1,10 @@
 -- What is so of a rule in which no fault is found.
-use Rattle.std.proofs.Common.{ℕ, zero, suc, ◌+◌, ◌≤◌, ◌≡◌, ◌++◌, List, [], ◌∷◌, Bool, true, false, not, ◌&&◌, is_some, take, length, cond, if◌then◌else◌, Option, Some, None, Result, Ok, Err, slice_get, refl, ap, sym, ◌∙◌, subst, arith, rules, zero-add, add-zero}
+use Rattle.std.proofs.Common.{ℕ, zero, suc, ◌+◌, ◌≡◌, ◌++◌, List, [], ◌∷◌, Bool, true, false, not, ◌&&◌, is_some, take, Option, Some, None, Result, Ok, Err, slice_get, refl, ap, sym, ◌∙◌, arith, zero-add, add-zero}
 use Rattle.std.proofs.lemmas.Bool.{and_parts, not-false}
-use Rattle.std.proofs.lemmas.Grind.{flat_map-append}
-use Rattle.std.proofs.lemmas.List.Elements.{All-append, All-cons, All-nil}
+use Rattle.std.proofs.lemmas.List.Elements.{All-cons, All-nil}
 use Rattle.std.proofs.lemmas.Option.{none-some, same_Some}
-use Rattle.std.specs.List.{All, flat_map, list_all}
-use Rattle.std.specs.Option.{option_and_then, option_map, option_map_or}
+use Rattle.std.specs.List.{All, flat_map}
+use Rattle.std.specs.Option.{option_map_or}
 use Rattle.hs_expr.specs.declared.Kind.{Kind}
 use Rattle.hs_expr.specs.declared.Kind.TheVariants as sort
 use Rattle.hs_expr.specs.declared.Expr.{Expr}
@@ -23,18 +22,15 @@ use Rattle.hs_text.specs.declared.syntax.Param.{Param}
 use Rattle.hs_text.specs.declared.syntax.Rule.{Rule}
 use Rattle.hs_text.specs.Trees.{Tree, tree_of}
 use Rattle.hs_types.specs.declared.meta.Metamodel.{Metamodel}
-use Rattle.hs_rules.specs.declared.fault.RuleFault.{RuleFault}
-use Rattle.hs_rules.specs.declared.fault.RuleFaultKind.{RuleFaultKind}
 use Rattle.hs_rules.specs.declared.nodes.DeclaredNode.{DeclaredNode}
 use Rattle.hs_rules.specs.declared.nodes.Home.{Home}
 use Rattle.hs_rules.specs.Faults.{faults_behind, faults_in_rule, faults_of_definition, faults_of_rules, last_passes, later_passes, rule_of}
 use Rattle.hs_rules.specs.FirstPass.{class_faults, faults_of_nodes, faults_of_params, has_objects, is_again, is_created, kind_faults, node_faults, param_faults}
 use Rattle.hs_rules.specs.FourthPass.{fourth_pass, keeps_limits}
-use Rattle.hs_rules.specs.Names.{class_named, data_named, node_named}
+use Rattle.hs_rules.specs.Names.{class_named}
 use Rattle.hs_rules.specs.Nodes.{declared_nodes}
-use Rattle.hs_rules.specs.Places.{fault_at}
-use Rattle.hs_rules.specs.SecondPass.{data_faults, fit_faults, is_node_of, is_of_kind, is_out, object_faults, second_pass}
-use Rattle.hs_rules.specs.Statements.{Statement, Edge, Set, Where, statements}
+use Rattle.hs_rules.specs.SecondPass.{fit_faults, second_pass}
+use Rattle.hs_rules.specs.Statements.{Statement, statements}
 use Rattle.hs_rules.specs.ThirdPass.{Slot, attribute_kind, edge_checked, in_rule, is_deleted, is_of_class, is_set, kind_checked, may_join, names_from, open_node, same_home, same_kind, set_checked, slot_of, statement_checked, target_from, third_pass, told, where_checked}
 use Rattle.hs_rules.specs.UnitFaults.{faults_of, faults_of_units}
 

@@ -1,7 +1,7 @@
 -- The slots of the kernel or a multi-rule are those that are read or set, each once, in order.
-use Rattle.std.proofs.Common.{ℕ, zero, suc, ◌+◌, ◌-◌, ◌<◌, ◌≤◌, ◌≡◌, ◌⊎◌, ◌&&◌, ◌||◌, ◌++◌, List, [], ◌∷◌, Bool, true, false, not, cond, eqb, map, length, slice_get, Option, Some, None, IsSomeAnd, is_some, if◌then◌else◌, refl, ap, ap₂, sym, ◌∙◌, subst, inl, inr, arith, rules}
-use Rattle.std.proofs.lemmas.Bool.{and_from, and_parts, eq-eqb, eqb-false, eqb-true, false≢true, ne_eqb, or_cases, or_left, or_right}
-use Rattle.std.proofs.lemmas.List.Elements.{All-append, All-cons, All-head, All-map, All-nil, All-tail, All-weaker}
+use Rattle.std.proofs.Common.{ℕ, zero, suc, ◌+◌, ◌-◌, ◌<◌, ◌≤◌, ◌≡◌, ◌&&◌, ◌||◌, ◌++◌, List, [], ◌∷◌, Bool, true, false, not, cond, eqb, map, length, slice_get, Option, Some, None, IsSomeAnd, is_some, if◌then◌else◌, refl, ap, ap₂, sym, ◌∙◌, subst, inl, inr, arith}
+use Rattle.std.proofs.lemmas.Bool.{and_from, and_parts, eq-eqb, eqb-true, false≢true, ne_eqb, or_cases, or_left, or_right}
+use Rattle.std.proofs.lemmas.List.Elements.{All-cons, All-head, All-map, All-nil, All-tail}
 use Rattle.std.proofs.lemmas.List.Folds.{list_any-append}
 use Rattle.std.proofs.lemmas.Option.{none-some, same_Some, slice_get_within}
 use Rattle.std.specs.List.{All, filter, list_any, position_or_len}
@@ -21,10 +21,9 @@ use Rattle.hs_types.specs.Lists.{Differ, EachPair, has}
 use Rattle.hs_types.specs.Metamodel.{IsMeta, attributes_of, class_at, feature_at, features_of, type_of, kind_of_type}
 use Rattle.hs_types.specs.Pattern.{is_drop, is_keep, is_kind, is_left, node_is}
 use Rattle.hs_types.specs.RuleForm.{AreSlots, SetFits, SlotBefore, has_slot, is_read, is_set, slot_kind}
-use Rattle.hs_rules.specs.Names.{number}
-use Rattle.hs_meaning.specs.Slots.{is_used, slot_at, slot_with, slots_at, slots_from, slots_of}
+use Rattle.hs_meaning.specs.Slots.{is_used, slot_at, slot_with, slots_at, slots_from}
 use Rattle.hs_meaning.proofs.Opening.{number_there}
-use Rattle.hs_meaning.proofs.Picked.{All-at, All-each_from, All-from, EachPair-append, EachPair-at, EachPair-filter, EachPair-from, EachPair-map, slice_get-behind}
+use Rattle.hs_meaning.proofs.Picked.{All-at, All-each_from, All-from, EachPair-append, EachPair-filter, EachPair-from, EachPair-map, slice_get-behind}
 
 -- Attribute a of node n is read, and is set.
 abbrev pub is_read_at : List SlotRead → ℕ → ℕ → Bool

@@ -1,18 +1,15 @@
 -- A rule without faults keeps the limits of rules.
-use Rattle.std.proofs.Common.{ℕ, zero, suc, ◌+◌, ◌≤◌, ◌≡◌, ◌&&◌, ◌++◌, List, [], ◌∷◌, Bool, true, false, eqb, nat_le, map, length, take, slice_get, Option, Some, Ok, refl, ap, sym, ◌∙◌, subst, arith}
-use Rattle.std.proofs.lemmas.Bool.{and_from, and_parts, eq-eqb, eqb-true, leb-true}
+use Rattle.std.proofs.Common.{ℕ, zero, suc, ◌≤◌, ◌≡◌, ◌&&◌, List, [], ◌∷◌, Bool, true, eqb, length, slice_get, Option, Some, ap, sym, ◌∙◌, subst, arith}
+use Rattle.std.proofs.lemmas.Bool.{and_from, and_parts, eqb-true, leb-true}
 use Rattle.std.proofs.lemmas.List.Elements.{All-map}
-use Rattle.std.specs.List.{All, filter, filter_map, flat_map, list_all}
+use Rattle.std.specs.List.{All, filter, list_all}
 use Rattle.std.specs.Option.{unwrap_or}
 use Rattle.hs_expr.specs.declared.Expr.{Expr}
-use Rattle.hs_expr.specs.declared.Name.{Name}
 use Rattle.hs_expr.specs.Evaluation.{nesting}
 use Rattle.hs_expr.specs.Verdict.{each}
-use Rattle.hs_text.specs.declared.syntax.Mark.{Mark as WrittenMark}
 use Rattle.hs_text.specs.declared.syntax.Rule.{Rule as WrittenRule}
 use Rattle.hs_types.specs.declared.meta.Metamodel.{Metamodel}
 use Rattle.hs_types.specs.declared.rule.Multi.{Multi}
-use Rattle.hs_types.specs.declared.rule.Param.{Param}
 use Rattle.hs_types.specs.declared.rule.Part.{Part}
 use Rattle.hs_types.specs.declared.rule.PatternEdge.{PatternEdge}
 use Rattle.hs_types.specs.declared.rule.PatternNode.{PatternNode}
@@ -23,12 +20,12 @@ use Rattle.hs_types.specs.Metamodel.{target_of}
 use Rattle.hs_rules.specs.declared.nodes.DeclaredNode.{DeclaredNode}
 use Rattle.hs_rules.specs.declared.nodes.Home.{Home}
 use Rattle.hs_rules.specs.declared.nodes.Home.TheVariants as home
-use Rattle.hs_rules.specs.FourthPass.{blocks, has_few, has_few_alike, is_alike, is_edge_of, is_multi, is_pattern}
+use Rattle.hs_rules.specs.FourthPass.{has_few_alike, is_alike, is_edge_of, is_multi, is_pattern}
 use Rattle.hs_rules.specs.Names.{feature_named, target_named}
 use Rattle.hs_rules.specs.Nodes.{declared_nodes}
 use Rattle.hs_rules.specs.Statements.{Statement, Edge, statements}
 use Rattle.hs_rules.specs.ThirdPass.{same_home}
-use Rattle.hs_meaning.specs.Elements.{edge_in, edges_in, feature_number, mark_meant, node_meant, node_number, nodes_in}
+use Rattle.hs_meaning.specs.Elements.{edge_in, edges_in, node_meant, node_number, nodes_in}
 use Rattle.hs_meaning.specs.Expressions.{set_in, sets_in, where_in, wheres_in}
 use Rattle.hs_meaning.specs.Parameters.{class_meant, param_meant, params_meant}
 use Rattle.hs_meaning.specs.Rules.{forbid_at, multi_at, multi_meant, part_meant, require_at, rule_meant, sayings}
@@ -43,7 +40,7 @@ use Rattle.hs_meaning.proofs.Made.{EdgeMade, edge_made, expr_flat, features_same
 use Rattle.hs_meaning.proofs.Opening.{Opens, Spot}
 use Rattle.hs_meaning.proofs.Parted.{IsFewPart, kernel_of, multi_block, pattern_block}
 use Rattle.hs_meaning.proofs.Picked.{All-at, All-filter_map, All-from, fewer_made, fewer_pass}
-use Rattle.hs_meaning.proofs.Silent.{Clean, SoundEdge, sound_edge}
+use Rattle.hs_meaning.proofs.Silent.{Clean, sound_edge}
 
 -- ---- edges
 
