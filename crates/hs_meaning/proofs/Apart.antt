@@ -21,7 +21,7 @@ pub is_text : (a b : List ℕ) → a ≡ b → same_text a b ≡ true
 is_text a b e = (lists_exact nat_exact a b).1 e
 
 -- Two texts that pass one test are the same.
-pub texts_same : (a b name : List ℕ) → same_text name a ≡ true → same_text name b ≡ true → a ≡ b
+texts_same : (a b name : List ℕ) → same_text name a ≡ true → same_text name b ≡ true → a ≡ b
 texts_same a b name e f = sym (text_is name a e) ∙ text_is name b f
 
 -- Each item has a name that none before it has.

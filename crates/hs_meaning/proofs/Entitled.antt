@@ -77,8 +77,8 @@ object_fits m rule p e =
     go (Some d) named is of_kind =
         let both = and_parts (is_kernel d.home) (is_on_side p.direction d.mark) is in
         let found : find (λ (node : PatternNode). same_text node.name p.name.text) (kernel_of m rule) ≡ Some (node_meant m d) =
-            find_agree (λ (node : PatternNode). same_text node.name p.name.text) (called p.name.text) (kernel_of m rule) (λ node. nat_list_eq_equiv.symm node.name p.name.text)
-            ∙ found_in m (declared_nodes rule.items) home.Kernel p.name.text d named (kernel_home d.home ∙ both.0) in
+        find_agree (λ (node : PatternNode). same_text node.name p.name.text) (called p.name.text) (kernel_of m rule) (λ node. nat_list_eq_equiv.symm node.name p.name.text)
+        ∙ found_in m (declared_nodes rule.items) home.Kernel p.name.text d named (kernel_home d.home ∙ both.0) in
         rw found (side_is p.direction d.mark ∙ both.1, ap (class_meant m) (text_is d.class.text p.kind.text of_kind))
 
 param_fits : (m : Metamodel) (rule : WrittenRule) (p : WrittenParam) → fit_faults (declared_nodes rule.items) p ≡ [] → ParamFits (kernel_of m rule) (param_meant m p) (kind_meant m p.kind.text)
@@ -100,8 +100,8 @@ NamedApart p q = p.name ≡ q.name → ⊥
 one_part : (m : Metamodel) (rule : WrittenRule) → Clean m rule → (part : Home) → EachPair NamedApart (nodes_in m (declared_nodes rule.items) part)
 one_part m rule clean part = subst (EachPair NamedApart) (sym (nodes_in-picked m (declared_nodes rule.items) part))
     (EachPair-filter_map NamedApart (node_in m part) (declared_nodes rule.items) (λ i j d e p q low at_i at_j made_p made_q same.
-      names_apart (λ (node : DeclaredNode). node.name) (declared_nodes rule.items) clean.nodes_new i j d e low at_i at_j
-      (ap (λ (n : PatternNode). n.name) (node_made m part d p made_p).1 ∙ same ∙ sym (ap (λ (n : PatternNode). n.name) (node_made m part e q made_q).1))))
+    names_apart (λ (node : DeclaredNode). node.name) (declared_nodes rule.items) clean.nodes_new i j d e low at_i at_j
+    (ap (λ (n : PatternNode). n.name) (node_made m part d p made_p).1 ∙ same ∙ sym (ap (λ (n : PatternNode). n.name) (node_made m part e q made_q).1))))
 
 pub itself : (h : Home) → same_home h h ≡ true
 itself home.Kernel = refl
@@ -111,13 +111,13 @@ itself (home.Multi i) = eq-eqb i i refl
 two_parts : (m : Metamodel) (ds : List DeclaredNode) → HaveOwn (λ (node : DeclaredNode). node.name) ds → (g h : Home) → Unlike g h → All (λ p. All (NamedApart p) (nodes_in m ds h)) (nodes_in m ds g)
 two_parts m ds own g h unlike = subst (All (λ (p : PatternNode). All (NamedApart p) (nodes_in m ds h))) (sym (nodes_in-picked m ds g))
     (All-filter_map (λ (p : PatternNode). All (NamedApart p) (nodes_in m ds h)) (node_in m g) ds (λ i d p at_i made_p.
-      subst (All (NamedApart p)) (sym (nodes_in-picked m ds h)) (All-filter_map (NamedApart p) (node_in m h) ds (λ j e q at_j made_q same.
-        let is_p = node_made m g d p made_p in
-        let is_q = node_made m h e q made_q in
-        let place = one_place (λ (node : DeclaredNode). node.name) ds own i j d e at_i at_j (ap (λ (n : PatternNode). n.name) is_p.1 ∙ same ∙ sym (ap (λ (n : PatternNode). n.name) is_q.1)) in
-        let one : d ≡ e = same_Some d e (sym at_i ∙ ap (slice_get ds) place ∙ at_j) in
-        let homes : g ≡ h = homes_same g d.home is_p.0 ∙ ap (λ (n : DeclaredNode). n.home) one ∙ sym (homes_same h e.home is_q.0) in
-        false≢true (sym unlike ∙ ap (same_home g) (sym homes) ∙ itself g)))))
+    subst (All (NamedApart p)) (sym (nodes_in-picked m ds h)) (All-filter_map (NamedApart p) (node_in m h) ds (λ j e q at_j made_q same.
+    let is_p = node_made m g d p made_p in
+    let is_q = node_made m h e q made_q in
+    let place = one_place (λ (node : DeclaredNode). node.name) ds own i j d e at_i at_j (ap (λ (n : PatternNode). n.name) is_p.1 ∙ same ∙ sym (ap (λ (n : PatternNode). n.name) is_q.1)) in
+    let one : d ≡ e = same_Some d e (sym at_i ∙ ap (slice_get ds) place ∙ at_j) in
+    let homes : g ≡ h = homes_same g d.home is_p.0 ∙ ap (λ (n : DeclaredNode). n.home) one ∙ sym (homes_same h e.home is_q.0) in
+    false≢true (sym unlike ∙ ap (same_home g) (sym homes) ∙ itself g)))))
 
 -- The nodes of parts that differ have names that differ.
 parts_apart : (m : Metamodel) (rule : WrittenRule) → Clean m rule → (parts : List Home) → EachPair Unlike parts → EachPair NamedApart (flat_map (nodes_in m (declared_nodes rule.items)) parts)
@@ -125,9 +125,9 @@ parts_apart m rule clean [] unlike = tt
 parts_apart m rule clean (g ∷ parts) unlike =
     EachPair-append NamedApart (nodes_in m (declared_nodes rule.items) g) (flat_map (nodes_in m (declared_nodes rule.items)) parts) (one_part m rule clean g) (parts_apart m rule clean parts unlike.1)
     (All-from (λ (p : PatternNode). All (NamedApart p) (flat_map (nodes_in m (declared_nodes rule.items)) parts)) (nodes_in m (declared_nodes rule.items) g) (λ k p at.
-      all_flat_from (NamedApart p) (nodes_in m (declared_nodes rule.items)) parts (λ l h at_h.
-        All-at (λ (p : PatternNode). All (NamedApart p) (nodes_in m (declared_nodes rule.items) h)) (nodes_in m (declared_nodes rule.items) g) k p
-        (two_parts m (declared_nodes rule.items) clean.nodes_new g h (All-at (Unlike g) parts l h unlike.0 at_h)) at)))
+    all_flat_from (NamedApart p) (nodes_in m (declared_nodes rule.items)) parts (λ l h at_h.
+    All-at (λ (p : PatternNode). All (NamedApart p) (nodes_in m (declared_nodes rule.items) h)) (nodes_in m (declared_nodes rule.items) g) k p
+    (two_parts m (declared_nodes rule.items) clean.nodes_new g h (All-at (Unlike g) parts l h unlike.0 at_h)) at)))
   where
     all_flat_from : {A B : Type 0} (P : B → Type 0) (f : A → List B) (xs : List A) → ((k : ℕ) (x : A) → slice_get xs k ≡ Some x → All P (f x)) → All P (flat_map f xs)
     all_flat_from P f [] h = All-nil P

@@ -61,7 +61,7 @@ length-mapped f (x ∷ xs) = ap suc (length-mapped f xs)
 pub few_nodes : (m : Metamodel) (ds : List DeclaredNode) (said : List Statement) (part : Home) → has_few ds said part ≡ true → length (nodes_in m ds part) ≤ 12
 few_nodes m ds said part e = subst (λ n. n ≤ 12) (sym (length-mapped (node_meant m) (filter (λ (node : DeclaredNode). same_home part node.home) ds))) (few_in ds said part e).nodes
 
-pub all_classed : (m : Metamodel) (rule : Rule) → Clean m rule → AllClassed m (declared_nodes rule.items)
+all_classed : (m : Metamodel) (rule : Rule) → Clean m rule → AllClassed m (declared_nodes rule.items)
 all_classed m rule clean k d at =
     let known = clean.nodes_known k d at in
     known.named ∙ ap (λ (n : ℕ). Some n) (sym (ap (λ (o : Option ℕ). unwrap_or o 0) known.named))

@@ -64,7 +64,7 @@ node_fits : (m : Metamodel) (rule : Rule) → Clean m rule → (k : ℕ) (d : De
 node_fits m rule clean k d at =
     let known = clean.nodes_known k d at in
     let fine : (has_concrete m known.number && (not (is_created d.mark) || is_concrete m known.number)) ≡ true =
-        ap (λ (o : Option ℕ). option_map_or (λ c. has_concrete m c && (not (is_created d.mark) || is_concrete m c)) o true) (sym known.named) ∙ known.fine in
+    ap (λ (o : Option ℕ). option_map_or (λ c. has_concrete m c && (not (is_created d.mark) || is_concrete m c)) o true) (sym known.named) ∙ known.fine in
     let parts = and_parts (has_concrete m known.number) (not (is_created d.mark) || is_concrete m known.number) fine in
     let same : known.number ≡ class_meant m d.class.text = sym (ap (λ (o : Option ℕ). option_map_or (λ n. n) o 0) known.named) in
     subst (λ (c : ℕ). NodeFits m (record { name = d.name.text; class = c; mark = mark_meant d.mark })) same
@@ -84,7 +84,7 @@ module _ (m : Metamodel) (rule : Rule) (clean : Clean m rule) (part : Home) (bef
       let right = subst (IsRight m rule k) is.is (clean.said k s at) in
       subst (λ (edge : PatternEdge). EdgeFits m (end_test part edge.mark) (open_nodes m rule part before) edge) is.whole (edge_fits m (declared_nodes rule.items) part before opens is.mark is.source is.target is.reference right))
 
--- ---- conditions
+  -- ---- conditions
 
   where_fits : (k : ℕ) (s : Statement) (e : Expr) → slice_get (statements rule.items) k ≡ Some s → where_in (names_in m rule part before) part s ≡ Some e →
       (kind_in (scope_in m rule part before) e ≡ Some kind.Bool) × All (IsKnown (scope_in m rule part before)) (reads_of e)

@@ -36,12 +36,12 @@ few_multis m rule clean = each_passes (has_few (declared_nodes rule.items) (stat
 parts_fit : (m : Metamodel) (rule : WrittenRule) → Clean m rule → (parts : List Home) → All (λ h. is_pattern h ≡ true) parts → All (IsFewPart rule) parts → All (IsPart m (rule_meant m rule)) (map (part_meant m (sayings m rule) (kernel_of m rule)) parts)
 parts_fit m rule clean parts patterns few = All-map (IsPart m (rule_meant m rule)) (part_meant m (sayings m rule) (kernel_of m rule)) parts
     (All-from (λ (h : Home). IsPart m (rule_meant m rule) (part_meant m (sayings m rule) (kernel_of m rule) h)) parts (λ k h at.
-      part_fits m rule clean h (All-at (λ (h : Home). is_pattern h ≡ true) parts k h patterns at) (All-at (IsFewPart rule) parts k h few at)))
+    part_fits m rule clean h (All-at (λ (h : Home). is_pattern h ≡ true) parts k h patterns at) (All-at (IsFewPart rule) parts k h few at)))
 
 multis_fit : (m : Metamodel) → IsMeta m → (rule : WrittenRule) → Clean m rule → All (IsMulti m (rule_meant m rule)) (map (multi_meant m (sayings m rule) (kernel_of m rule)) (each multi_at rule.items))
 multis_fit m is rule clean = All-map (IsMulti m (rule_meant m rule)) (multi_meant m (sayings m rule) (kernel_of m rule)) (each multi_at rule.items)
     (All-from (λ (h : Home). IsMulti m (rule_meant m rule) (multi_meant m (sayings m rule) (kernel_of m rule) h)) (each multi_at rule.items) (λ k h at.
-      multi_fits m is rule clean h (All-at (λ (h : Home). is_multi h ≡ true) (each multi_at rule.items) k h (are_multis rule.items) at) (All-at (IsFewPart rule) (each multi_at rule.items) k h (few_multis m rule clean) at)))
+    multi_fits m is rule clean h (All-at (λ (h : Home). is_multi h ≡ true) (each multi_at rule.items) k h (are_multis rule.items) at) (All-at (IsFewPart rule) (each multi_at rule.items) k h (few_multis m rule clean) at)))
 
 formed : (m : Metamodel) → IsMeta m → (rule : WrittenRule) → Clean m rule → IsRule m (rule_meant m rule)
 formed m is rule clean = record {

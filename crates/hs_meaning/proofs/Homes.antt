@@ -54,24 +54,24 @@ ApartHere f g = (i : ℕ) (x : Item) → All (λ a. All (Unlike a) (g i x)) (f i
 apart_each : (f g : ℕ → Item → List Home) → Numbered f → Numbered g → ApartHere f g → (n : ℕ) (items : List Item) → All (λ a. All (Unlike a) (each_from g n items)) (each_from f n items)
 apart_each f g at_f at_g apart n items =
     All-each_from (λ (a : Home). All (Unlike a) (each_from g n items)) f n items (λ i x here.
-      All-from (λ (a : Home). All (Unlike a) (each_from g n items)) (f (n + i) x) (λ k a at_a.
-        All-each_from (Unlike a) g n items (λ j y there.
-          All-from (Unlike a) (g (n + j) y) (λ l b at_b.
-            elim (cases_eq i j) [
-              | inl same ↦
-                let item_same : x ≡ y = same_Some x y (sym here ∙ ap (slice_get items) same ∙ there) in
-                let b_here : slice_get (g (n + i) x) l ≡ Some b = ap (λ k. slice_get (g (n + k) x) l) same ∙ ap (λ z. slice_get (g (n + j) z) l) item_same ∙ at_b in
-                All-at (Unlike a) (g (n + i) x) l b (All-at (λ (a : Home). All (Unlike a) (g (n + i) x)) (f (n + i) x) k a (apart (n + i) x) at_a) b_here
-              | inr differ ↦ unlike_at (n + i) (n + j) a b (All-at (IsAt (n + i)) (f (n + i) x) k a (at_f (n + i) x) at_a) (All-at (IsAt (n + j)) (g (n + j) y) l b (at_g (n + j) y) at_b) (λ e. differ (let d : i ≡ j = omega arith in d))
-            ]))))
+    All-from (λ (a : Home). All (Unlike a) (each_from g n items)) (f (n + i) x) (λ k a at_a.
+    All-each_from (Unlike a) g n items (λ j y there.
+    All-from (Unlike a) (g (n + j) y) (λ l b at_b.
+    elim (cases_eq i j) [
+      | inl same ↦
+          let item_same : x ≡ y = same_Some x y (sym here ∙ ap (slice_get items) same ∙ there) in
+          let b_here : slice_get (g (n + i) x) l ≡ Some b = ap (λ k. slice_get (g (n + k) x) l) same ∙ ap (λ z. slice_get (g (n + j) z) l) item_same ∙ at_b in
+          All-at (Unlike a) (g (n + i) x) l b (All-at (λ (a : Home). All (Unlike a) (g (n + i) x)) (f (n + i) x) k a (apart (n + i) x) at_a) b_here
+      | inr differ ↦ unlike_at (n + i) (n + j) a b (All-at (IsAt (n + i)) (f (n + i) x) k a (at_f (n + i) x) at_a) (All-at (IsAt (n + j)) (g (n + j) y) l b (at_g (n + j) y) at_b) (λ e. differ (let d : i ≡ j = omega arith in d))
+    ]))))
 
 apart_each_one : (f : ℕ → Item → List Home) → Numbered f → ((i : ℕ) (x : Item) → EachPair Unlike (f i x)) → (n : ℕ) (items : List Item) → EachPair Unlike (each_from f n items)
 apart_each_one f at_f one n [] = tt
 apart_each_one f at_f one n (x ∷ items) = EachPair-append Unlike (f n x) (each_from f (n + 1) items) (one n x) (apart_each_one f at_f one (n + 1) items)
     (All-from (λ (a : Home). All (Unlike a) (each_from f (n + 1) items)) (f n x) (λ k a at_a.
-      All-each_from (Unlike a) f (n + 1) items (λ j y there.
-        All-from (Unlike a) (f (n + 1 + j) y) (λ l b at_b.
-          unlike_at n (n + 1 + j) a b (All-at (IsAt n) (f n x) k a (at_f n x) at_a) (All-at (IsAt (n + 1 + j)) (f (n + 1 + j) y) l b (at_f (n + 1 + j) y) at_b) (λ e. absurd (omega arith))))))
+    All-each_from (Unlike a) f (n + 1) items (λ j y there.
+    All-from (Unlike a) (f (n + 1 + j) y) (λ l b at_b.
+    unlike_at n (n + 1 + j) a b (All-at (IsAt n) (f n x) k a (at_f n x) at_a) (All-at (IsAt (n + 1 + j)) (f (n + 1 + j) y) l b (at_f (n + 1 + j) y) at_b) (λ e. absurd (omega arith))))))
 
 forbids_at : Numbered forbid_at
 forbids_at i (item.Simple s) = All-nil (IsAt i)
@@ -146,9 +146,9 @@ homes_unlike items =
     let multis = each multi_at items in (
       All-append (Unlike Kernel) (forbids ++ requires) multis (All-append (Unlike Kernel) forbids requires (kernel_apart forbid_at forbids_at 0 items) (kernel_apart require_at requires_at 0 items)) (kernel_apart multi_at multis_at 0 items),
       EachPair-append Unlike (forbids ++ requires) multis
-      (EachPair-append Unlike forbids requires (apart_each_one forbid_at forbids_at one_forbid 0 items) (apart_each_one require_at requires_at one_require 0 items) (apart_each forbid_at require_at forbids_at requires_at forbids_requires 0 items))
-      (apart_each_one multi_at multis_at one_multi 0 items)
-      (All-append (λ (a : Home). All (Unlike a) multis) forbids requires (apart_each forbid_at multi_at forbids_at multis_at forbids_multis 0 items) (apart_each require_at multi_at requires_at multis_at requires_multis 0 items)),
+          (EachPair-append Unlike forbids requires (apart_each_one forbid_at forbids_at one_forbid 0 items) (apart_each_one require_at requires_at one_require 0 items) (apart_each forbid_at require_at forbids_at requires_at forbids_requires 0 items))
+          (apart_each_one multi_at multis_at one_multi 0 items)
+          (All-append (λ (a : Home). All (Unlike a) multis) forbids requires (apart_each forbid_at multi_at forbids_at multis_at forbids_multis 0 items) (apart_each require_at multi_at requires_at multis_at requires_multis 0 items)),
     )
 
 -- ---- of one sort

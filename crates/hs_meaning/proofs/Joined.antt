@@ -18,7 +18,7 @@ use Rattle.hs_rules.specs.declared.nodes.DeclaredNode.{DeclaredNode}
 use Rattle.hs_rules.specs.declared.nodes.Home.{Home}
 use Rattle.hs_rules.specs.declared.nodes.Home.TheVariants as home
 use Rattle.hs_rules.specs.Names.{feature_named, is_named, target_named}
-use Rattle.hs_rules.specs.ThirdPass.{class_of, edge_checked, may_join, same_home}
+use Rattle.hs_rules.specs.ThirdPass.{class_of, edge_checked, may_join, same_home, target_from}
 use Rattle.hs_meaning.specs.Elements.{edge_meant, feature_found, feature_number, mark_meant, node_meant, node_number, nodes_in}
 use Rattle.hs_meaning.specs.Parameters.{class_meant}
 use Rattle.hs_meaning.proofs.Classed.{does_conform}
@@ -79,6 +79,23 @@ number_at_spot m nodes name d s = ap (λ (o : Option ℕ). unwrap_or o 0) s.numb
 pub node_at_spot : (m : Metamodel) (nodes : List PatternNode) (name : List ℕ) (d : DeclaredNode) → Spot m nodes name d → slice_get nodes (node_number nodes name) ≡ Some (node_meant m d)
 node_at_spot m nodes name d s = ap (slice_get nodes) (number_at_spot m nodes name d s) ∙ s.at
 
+-- The reference that a name means at a node, and the class that it leads to.
+pub record ReferenceSpot (m : Metamodel) (nodes : List PatternNode) (name reference : List ℕ) (d : DeclaredNode) (class : ℕ) : Type 0 where
+  pub number : ℕ
+  pub named : feature_named m (class_meant m d.class.text) reference ≡ Some number
+  pub leads : target_of m number ≡ Some class
+  pub number_is : feature_number m nodes (node_number nodes name) reference ≡ number
+
+pub reference_spot : (m : Metamodel) (nodes : List PatternNode) (name reference : List ℕ) (d : DeclaredNode) (class : ℕ) → Spot m nodes name d → target_from m d reference ≡ Some class → ReferenceSpot m nodes name reference d class
+reference_spot m nodes name reference d class s e =
+    let f = came (feature_named m (class_meant m d.class.text) reference) (target_of m) class (by_class m d (λ c. target_named m c reference) (class_meant m d.class.text) class s.class e) in
+    record {
+      number = f.0;
+      named = f.1;
+      leads = f.2;
+      number_is = ap (λ (o : Option ℕ). unwrap_or o 0) (feature_at_spot m nodes (node_number nodes name) reference (node_meant m d) f.0 (node_at_spot m nodes name d s) f.1);
+    }
+
 pub edge_fits : (m : Metamodel) (ds : List DeclaredNode) (part : Home) (before : List PatternNode) → Opens m ds part before → (mark : WrittenMark) (source target reference : Name) →
     edge_checked m ds part mark source target reference ≡ Ok tt → EdgeFits m (end_test part (mark_meant mark)) (before ++ nodes_in m ds part) (edge_meant m (before ++ nodes_in m ds part) (mark_meant mark) source.text target.text reference.text)
 edge_fits m ds part before opens mark source target reference right =
@@ -89,15 +106,13 @@ edge_fits m ds part before opens mark source target reference right =
     let from_at = node_at_spot m nodes source.text sound.from from in
     let to_at = node_at_spot m nodes target.text sound.to to in
     let class : ℕ = class_meant m sound.from.class.text in
-    let by = came (feature_named m class reference.text) (target_of m) sound.class (by_class m sound.from (λ c. target_named m c reference.text) class sound.class from.class sound.leads) in
-    let numbered : feature_number m nodes (node_number nodes source.text) reference.text ≡ by.0 =
-        ap (λ (o : Option ℕ). unwrap_or o 0) (feature_at_spot m nodes (node_number nodes source.text) reference.text (node_meant m sound.from) by.0 from_at by.1) in
+    let by = reference_spot m nodes source.text reference.text sound.from sound.class from sound.leads in
     let joins_from : end_test part (mark_meant mark) (mark_meant sound.from.mark) ≡ true = sym (end_is part mark sound.from.mark) ∙ sound.joins_from in
     let joins_to : end_test part (mark_meant mark) (mark_meant sound.to.mark) ≡ true = sym (end_is part mark sound.to.mark) ∙ sound.joins_to in
     let target_class : ℕ = class_meant m sound.to.class.text in
     let below : conforms (supers_of m) target_class sound.class ≡ true = test_holds (λ c. conforms (supers_of m) c sound.class) (class_of m sound.to) target_class to.class sound.below in
     ends m (end_test part (mark_meant mark)) nodes (edge_meant m nodes (mark_meant mark) source.text target.text reference.text) (node_meant m sound.from) (node_meant m sound.to) sound.class
-    from_at to_at joins_from joins_to (ap (has (features_of m class)) numbered ∙ found-has (is_named m reference.text) (features_of m class) by.0 by.1) (ap (target_of m) numbered ∙ by.2) (does_conform m target_class sound.class below)
+    from_at to_at joins_from joins_to (ap (has (features_of m class)) by.number_is ∙ found-has (is_named m reference.text) (features_of m class) by.number by.named) (ap (target_of m) by.number_is ∙ by.leads) (does_conform m target_class sound.class below)
   where
     ends : (m : Metamodel) (test : Mark → Bool) (nodes : List PatternNode) (edge : PatternEdge) (from to : PatternNode) (class : ℕ) → slice_get nodes edge.source ≡ Some from → slice_get nodes edge.target ≡ Some to → test from.mark ≡ true → test to.mark ≡ true →
         has (features_of m from.class) edge.reference ≡ true → target_of m edge.reference ≡ Some class → Conforms m to.class class → EdgeFits m test nodes edge

@@ -144,7 +144,7 @@ attribute_spot m nodes name attribute d kind s e =
 pub nodes_same : (m : Metamodel) (nodes : List PatternNode) (a b : List ℕ) (d e : DeclaredNode) → Spot m nodes a d → Spot m nodes b e → node_number nodes a ≡ node_number nodes b → a ≡ b
 nodes_same m nodes a b d e s t same =
     let at : slice_get nodes (position_or_len (called b) nodes) ≡ Some (node_meant m d) =
-        ap (slice_get nodes) (sym (ap (λ (o : Option ℕ). unwrap_or o 0) t.number_is) ∙ sym same ∙ ap (λ (o : Option ℕ). unwrap_or o 0) s.number_is) ∙ s.at in
+    ap (slice_get nodes) (sym (ap (λ (o : Option ℕ). unwrap_or o 0) t.number_is) ∙ sym same ∙ ap (λ (o : Option ℕ). unwrap_or o 0) s.number_is) ∙ s.at in
     text_is a d.name.text (spot_called nodes a (node_meant m d) s.at) ∙ sym (text_is b d.name.text (spot_called nodes b (node_meant m d) at))
 
 pub features_same : (m : Metamodel) (c c' f : ℕ) (a b : List ℕ) → feature_named m c a ≡ Some f → feature_named m c' b ≡ Some f → a ≡ b

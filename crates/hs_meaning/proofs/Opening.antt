@@ -56,8 +56,8 @@ not_in m ds own part name d found away =
     fails : (k : ℕ) (e : DeclaredNode) (p : PatternNode) → slice_get ds k ≡ Some e → node_in m part e ≡ Some p → called name p ≡ false
     fails k e p at made = elim (cases_Bool (called name p)) [
       | inl yes_it ↦
-        let same = only_one (λ (node : DeclaredNode). node.name) ds own name d e k found at (sym (called_same m part name e p made) ∙ yes_it) in
-        absurd (false≢true (sym away ∙ ap (λ (n : DeclaredNode). same_home part n.home) same ∙ (node_made m part e p made).0))
+          let same = only_one (λ (node : DeclaredNode). node.name) ds own name d e k found at (sym (called_same m part name e p made) ∙ yes_it) in
+          absurd (false≢true (sym away ∙ ap (λ (n : DeclaredNode). same_home part n.home) same ∙ (node_made m part e p made).0))
       | inr not_it ↦ not_it
     ]
 
@@ -70,7 +70,7 @@ pub number_there : (n : ℕ) → n < 65536 → number n ≡ Some n
 number_there n low = cond-true (nat_lt n 65536) (Some n) None (lt-ltb n 65536 low)
 
 -- What a name finds among few stands at the number of the name.
-pub place_there : {A : Type 0} (p : A → Bool) (xs : List A) (x : A) → length xs ≤ 65536 → find p xs ≡ Some x → (option_and_then number (position p xs) ≡ Some (position_or_len p xs)) × (slice_get xs (position_or_len p xs) ≡ Some x)
+place_there : {A : Type 0} (p : A → Bool) (xs : List A) (x : A) → length xs ≤ 65536 → find p xs ≡ Some x → (option_and_then number (position p xs) ≡ Some (position_or_len p xs)) × (slice_get xs (position_or_len p xs) ≡ Some x)
 place_there p xs x few found =
     let at = sym (find_at p xs) ∙ found in
     let low = slice_get_within xs (position_or_len p xs) x at in

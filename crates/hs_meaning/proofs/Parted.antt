@@ -58,9 +58,9 @@ keep_is m d e = ap (λ mark. is_keep (mark_meant mark)) e
 nodes_kept : (m : Metamodel) (rule : WrittenRule) (part : Home) → is_pattern part ≡ true → All (λ node. is_keep node.mark ≡ true) (nodes_in m (declared_nodes rule.items) part)
 nodes_kept m rule part pattern = subst (All (λ (node : PatternNode). is_keep node.mark ≡ true)) (sym (nodes_in-picked m (declared_nodes rule.items) part))
     (All-filter_map (λ (node : PatternNode). is_keep node.mark ≡ true) (node_in m part) (declared_nodes rule.items) (λ k d p at made.
-      let is = node_made m part d p made in
-      let home_is : is_pattern d.home ≡ true = ap is_pattern (sym (homes_same part d.home is.0)) ∙ pattern in
-      subst (λ (node : PatternNode). is_keep node.mark ≡ true) is.1 (keep_is m d (All-at KeepsNode (declared_nodes rule.items) k d (nodes_keep rule.items) at home_is))))
+    let is = node_made m part d p made in
+    let home_is : is_pattern d.home ≡ true = ap is_pattern (sym (homes_same part d.home is.0)) ∙ pattern in
+    subst (λ (node : PatternNode). is_keep node.mark ≡ true) is.1 (keep_is m d (All-at KeepsNode (declared_nodes rule.items) k d (nodes_keep rule.items) at home_is))))
 
 edges_kept : (m : Metamodel) (rule : WrittenRule) (part : Home) (nodes : List PatternNode) → is_pattern part ≡ true → All (λ edge. is_keep edge.mark ≡ true) (edges_in m nodes (statements rule.items) part)
 edges_kept m rule part nodes pattern = All-filter_map (λ (edge : PatternEdge). is_keep edge.mark ≡ true) (edge_in m nodes part) (statements rule.items) (λ k s edge at made.
@@ -141,7 +141,7 @@ IsKnownHere m kernel read = nat_lt read.node (length kernel) ≡ true → is_som
 known_here : (m : Metamodel) (kernel own : List PatternNode) (read : SlotRead) → is_some (slot_kind m (kernel ++ own) read.node read.attribute) ≡ true → IsKnownHere m kernel read
 known_here m kernel own read e below =
     sym (ap (λ (o : Option PatternNode). is_some (option_and_then (λ (node : PatternNode). if is_left node.mark && has (attributes_of m node.class) read.attribute then option_map kind_of_type (type_of m read.attribute) else None) o))
-      (in_front kernel own read.node (ltb-true read.node (length kernel) below)))
+    (in_front kernel own read.node (ltb-true read.node (length kernel) below)))
     ∙ e
 
 all_kept : {A : Type 0} (P : A → Type 0) (t : A → Bool) (xs : List A) → All (λ x. t x ≡ true → P x) xs → All P (filter t xs)
@@ -162,18 +162,18 @@ any_kept {A} p t (x ∷ xs) h = go (t x) (p x) refl refl (any_kept p t xs h)
     go false false is e rest = rest
 
 -- The rule's reads, of which those at the kernel's nodes make its slots.
-pub kernel_known : (m : Metamodel) (rule : WrittenRule) → Clean m rule → All (IsFewPart rule) (each multi_at rule.items) → All (λ read. is_some (slot_kind m (kernel_of m rule) read.node read.attribute) ≡ true) (kernel_reads (rule_meant m rule))
+kernel_known : (m : Metamodel) (rule : WrittenRule) → Clean m rule → All (IsFewPart rule) (each multi_at rule.items) → All (λ read. is_some (slot_kind m (kernel_of m rule) read.node read.attribute) ≡ true) (kernel_reads (rule_meant m rule))
 kernel_known m rule clean few = all_kept (λ (read : SlotRead). is_some (slot_kind m (kernel_of m rule) read.node read.attribute) ≡ true) (λ (read : SlotRead). nat_lt read.node (length (kernel_of m rule))) (all_reads (rule_meant m rule))
     (All-append (IsKnownHere m (kernel_of m rule)) (reads_there m rule home.Kernel [])
-      (flat_map (λ (multi : Multi). reads_in multi.wheres multi.sets) (map (multi_meant m (sayings m rule) (kernel_of m rule)) (each multi_at rule.items)))
-      (All-weaker (IsKnown (scope_in m rule home.Kernel [])) (IsKnownHere m (kernel_of m rule)) (λ read known below. known) (reads_there m rule home.Kernel []) (reads_known m rule clean home.Kernel [] (kernel_opens m rule clean)))
-      (all_flat (IsKnownHere m (kernel_of m rule)) (λ (multi : Multi). reads_in multi.wheres multi.sets) (map (multi_meant m (sayings m rule) (kernel_of m rule)) (each multi_at rule.items))
-        (All-map (λ (multi : Multi). All (IsKnownHere m (kernel_of m rule)) (reads_in multi.wheres multi.sets)) (multi_meant m (sayings m rule) (kernel_of m rule)) (each multi_at rule.items)
-          (All-from (λ (part : Home). All (IsKnownHere m (kernel_of m rule)) (reads_there m rule part (kernel_of m rule))) (each multi_at rule.items) (λ k part at.
-            let multi = All-at (λ (h : Home). is_multi h ≡ true) (each multi_at rule.items) k part (are_multis rule.items) at in
-            let opens = block_opens m rule clean part (multi_block part multi).0 (All-at (IsFewPart rule) (each multi_at rule.items) k part few at) in
-            All-weaker (IsKnown (scope_in m rule part (kernel_of m rule))) (IsKnownHere m (kernel_of m rule)) (known_here m (kernel_of m rule) (nodes_in m (declared_nodes rule.items) part))
-            (reads_there m rule part (kernel_of m rule)) (reads_known m rule clean part (kernel_of m rule) opens))))))
+    (flat_map (λ (multi : Multi). reads_in multi.wheres multi.sets) (map (multi_meant m (sayings m rule) (kernel_of m rule)) (each multi_at rule.items)))
+    (All-weaker (IsKnown (scope_in m rule home.Kernel [])) (IsKnownHere m (kernel_of m rule)) (λ read known below. known) (reads_there m rule home.Kernel []) (reads_known m rule clean home.Kernel [] (kernel_opens m rule clean)))
+    (all_flat (IsKnownHere m (kernel_of m rule)) (λ (multi : Multi). reads_in multi.wheres multi.sets) (map (multi_meant m (sayings m rule) (kernel_of m rule)) (each multi_at rule.items))
+    (All-map (λ (multi : Multi). All (IsKnownHere m (kernel_of m rule)) (reads_in multi.wheres multi.sets)) (multi_meant m (sayings m rule) (kernel_of m rule)) (each multi_at rule.items)
+    (All-from (λ (part : Home). All (IsKnownHere m (kernel_of m rule)) (reads_there m rule part (kernel_of m rule))) (each multi_at rule.items) (λ k part at.
+    let multi = All-at (λ (h : Home). is_multi h ≡ true) (each multi_at rule.items) k part (are_multis rule.items) at in
+    let opens = block_opens m rule clean part (multi_block part multi).0 (All-at (IsFewPart rule) (each multi_at rule.items) k part few at) in
+    All-weaker (IsKnown (scope_in m rule part (kernel_of m rule))) (IsKnownHere m (kernel_of m rule)) (known_here m (kernel_of m rule) (nodes_in m (declared_nodes rule.items) part))
+    (reads_there m rule part (kernel_of m rule)) (reads_known m rule clean part (kernel_of m rule) opens))))))
 
 same_reads : (reads : List SlotRead) (high : ℕ) → SameReads reads (filter (λ (read : SlotRead). nat_lt read.node high) reads) 0 (0 + high)
 same_reads reads high n a low below = any_kept (λ (read : SlotRead). eqb read.node n && is_kind (Attribute read.attribute) (Attribute a)) (λ (read : SlotRead). nat_lt read.node high) reads (λ read e.

@@ -25,12 +25,6 @@ EachPair-from R (x ∷ xs) h = (
   EachPair-from R xs (λ i j y z low at_i at_j. h (suc i) (suc j) y z (omega arith) at_i at_j),
 )
 
-pub EachPair-at : {A : Type 0} (R : A → A → Type 0) (xs : List A) → EachPair R xs → (i j : ℕ) (x y : A) → i < j → slice_get xs i ≡ Some x → slice_get xs j ≡ Some y → R x y
-EachPair-at R [] d i j x y low at_i at_j = absurd (none-some x at_i)
-EachPair-at R (z ∷ xs) d i zero x y low at_i at_j = absurd (omega arith)
-EachPair-at R (z ∷ xs) d zero (suc j) x y low at_i at_j = subst (λ a. R a y) (same_Some z x at_i) (All-at (R z) xs j y d.0 at_j)
-EachPair-at R (z ∷ xs) d (suc i) (suc j) x y low at_i at_j = EachPair-at R xs d.1 i j x y (omega arith) at_i at_j
-
 pub EachPair-append : {A : Type 0} (R : A → A → Type 0) (xs ys : List A) → EachPair R xs → EachPair R ys → All (λ x. All (R x) ys) xs → EachPair R (xs ++ ys)
 EachPair-append R [] ys a b h = b
 EachPair-append {A} R (x ∷ xs) ys a b h = (
@@ -52,12 +46,7 @@ slice_get-take [] (suc n) i h = refl
 slice_get-take (x ∷ xs) (suc n) zero h = refl
 slice_get-take (x ∷ xs) (suc n) (suc i) h = slice_get-take xs n i (omega arith)
 
--- What stands in front keeps its place, and what comes behind goes on from there.
-pub slice_get-front : {A : Type 0} (xs ys : List A) (i : ℕ) (x : A) → slice_get xs i ≡ Some x → slice_get (xs ++ ys) i ≡ Some x
-slice_get-front [] ys i x at = absurd (none-some x at)
-slice_get-front (z ∷ xs) ys zero x at = at
-slice_get-front (z ∷ xs) ys (suc i) x at = slice_get-front xs ys i x at
-
+-- What comes behind goes on from the end of the front.
 pub slice_get-behind : {A : Type 0} (xs ys : List A) (i n : ℕ) → n ≡ length xs + i → slice_get (xs ++ ys) n ≡ slice_get ys i
 slice_get-behind [] ys i n e = let same : n ≡ i = omega arith in ap (slice_get ys) same
 slice_get-behind (x ∷ xs) ys i zero e = absurd (omega arith)

@@ -9,8 +9,6 @@ use Rattle.hs_expr.specs.declared.Kind.{Kind}
 use Rattle.hs_expr.specs.Evaluation.{Scope}
 use Rattle.hs_text.specs.declared.syntax.Direction.{Direction as WrittenDirection}
 use Rattle.hs_text.specs.declared.syntax.Direction.TheVariants as direction
-use Rattle.hs_text.specs.declared.syntax.Mark.{Mark as WrittenMark}
-use Rattle.hs_text.specs.declared.syntax.Mark.TheVariants as written
 use Rattle.hs_text.specs.declared.syntax.Param.{Param as WrittenParam}
 use Rattle.hs_types.specs.declared.meta.Metamodel.{Metamodel}
 use Rattle.hs_types.specs.declared.rule.Param.{Param}
@@ -26,7 +24,7 @@ use Rattle.hs_rules.specs.declared.nodes.Home.TheVariants as home
 use Rattle.hs_rules.specs.Named.{first_named}
 use Rattle.hs_rules.specs.Names.{data_named, feature_named, kind_named, node_named, number}
 use Rattle.hs_rules.specs.ThirdPass.{can_read, class_of, is_left as is_left_written, is_open, names_from, node_read, open_node, param_seen, shut_read}
-use Rattle.hs_meaning.specs.Elements.{feature_found, mark_meant, node_found, node_meant, nodes_in}
+use Rattle.hs_meaning.specs.Elements.{feature_found, node_found, node_meant, nodes_in}
 use Rattle.hs_meaning.specs.Expressions.{attribute_numbered, data_at, node_numbered, numbered, param_found, param_numbered}
 use Rattle.hs_meaning.specs.Parameters.{class_meant, direction_meant, kind_meant, param_meant, params_meant}
 use Rattle.hs_meaning.proofs.Following.{Follow}
@@ -39,11 +37,11 @@ scope_with m params nodes = record { slot = slot_kind m nodes; param = λ n. opt
 
 -- ---- parameters
 
-pub data_meant : (m : Metamodel) (word : List ℕ) (k : Kind) → data_named word ≡ Some k → kind_meant m word ≡ Data k
+data_meant : (m : Metamodel) (word : List ℕ) (k : Kind) → data_named word ≡ Some k → kind_meant m word ≡ Data k
 data_meant m word k is = ap (λ (o : Option Kind). option_map_or Data o (Object (class_meant m word))) is
 
 -- The parameter that a name finds means the one that is found in what is meant.
-pub param_found_meant : (m : Metamodel) (params : List WrittenParam) (name : List ℕ) (x : WrittenParam) → first_named (λ (param : WrittenParam). param.name) params name ≡ Some x → find (λ (param : Param). same_text name param.name) (params_meant m params) ≡ Some (param_meant m x)
+param_found_meant : (m : Metamodel) (params : List WrittenParam) (name : List ℕ) (x : WrittenParam) → first_named (λ (param : WrittenParam). param.name) params name ≡ Some x → find (λ (param : Param). same_text name param.name) (params_meant m params) ≡ Some (param_meant m x)
 param_found_meant m params name x found = found_mapped (λ (item : WrittenParam). same_text name item.name.text) (λ (param : Param). same_text name param.name) (param_meant m) params x (λ y. refl) found
   where
     found_mapped : {A B : Type 0} (p : A → Bool) (q : B → Bool) (f : A → B) (xs : List A) (x : A) → ((y : A) → q (f y) ≡ p y) → find p xs ≡ Some x → find q (map f xs) ≡ Some (f x)
@@ -69,7 +67,7 @@ params_follow m params nodes name p q seen numbered =
     let found = param_found_meant m params name x.0 x.1 in
     let same = same_Some y.0 (param_meant m x.0) (sym y.1 ∙ at_number (λ (param : Param). same_text name param.name) (params_meant m params) n.0 (param_meant m x.0) n.1 found) in
     let is_data : data_kind (direction_meant x.0.direction) (Data k.0) ≡ Some l.0 =
-        ap (data_kind (direction_meant x.0.direction)) (sym (data_meant m x.0.kind.text k.0 k.1)) ∙ ap (λ (r : Param). data_kind r.direction r.kind) (sym same) ∙ y.2 in (
+    ap (data_kind (direction_meant x.0.direction)) (sym (data_meant m x.0.kind.text k.0 k.1)) ∙ ap (λ (r : Param). data_kind r.direction r.kind) (sym same) ∙ y.2 in (
       ap (λ (r : ℕ × Kind). r.1) (sym l.2) ∙ data_same x.0.direction k.0 l.0 is_data ∙ ap (λ (r : ℕ × Kind). r.1) k.2,
       subst (λ (r : ℕ × Kind). (scope_with m (params_meant m params) nodes).param r.0 ≡ Some r.1) l.2 l.1,
     )
@@ -83,13 +81,8 @@ params_follow m params nodes name p q seen numbered =
 
 -- ---- slots
 
-pub left_same : (mark : WrittenMark) → is_left (mark_meant mark) ≡ is_left_written mark
-left_same written.Preserve = refl
-left_same written.Create = refl
-left_same written.Delete = refl
-
--- A node that can be read is open, and on the left side.
-readable : (part : Home) (d : DeclaredNode) → can_read part d ≡ Some true → (is_open part d ≡ true) × (is_left_written d.mark ≡ true)
+-- A node that can be read is open.
+readable : (part : Home) (d : DeclaredNode) → can_read part d ≡ Some true → is_open part d ≡ true
 readable part d e = go (is_open part d) e
   where
     shut : (h : Home) → shut_read h ≡ Some true → ⊥
@@ -97,8 +90,8 @@ readable part d e = go (is_open part d) e
     shut (home.Pattern i) e = cc
     shut (home.Multi i) e = cc
 
-    go : (b : Bool) → (if b then Some (is_left_written d.mark) else shut_read d.home) ≡ Some true → (b ≡ true) × (is_left_written d.mark ≡ true)
-    go true e = (refl, same_Some (is_left_written d.mark) true e)
+    go : (b : Bool) → (if b then Some (is_left_written d.mark) else shut_read d.home) ≡ Some true → b ≡ true
+    go true e = refl
     go false e = absurd (shut d.home e)
 
 -- The node that was read, by its class.
@@ -106,21 +99,23 @@ record Seen (m : Metamodel) (ds : List DeclaredNode) (part : Home) (owner : List
   d : DeclaredNode
   open_here : open_node ds part owner ≡ Some d
   class : class_of m d ≡ Some c
-  left : is_left_written d.mark ≡ true
+
+open_from : (ds : List DeclaredNode) (part : Home) (owner : List ℕ) (d : DeclaredNode) → node_named ds owner ≡ Some d → is_open part d ≡ true → open_node ds part owner ≡ Some d
+open_from ds part owner d named is = ap (option_and_then (λ (node : DeclaredNode). if is_open part node then Some node else None)) named ∙ ap (λ (b : Bool). if b then Some d else None) is
+
+-- A node that can be read is seen on the left side.
+seen_left : (m : Metamodel) (ds : List DeclaredNode) (part : Home) (owner : List ℕ) (d : DeclaredNode) (l : Bool) (c : ℕ × Bool) → node_named ds owner ≡ Some d → can_read part d ≡ Some l → option_map (λ (n : ℕ). (n, l)) (class_of m d) ≡ Some c → c.1 ≡ true → Seen m ds part owner c.0
+seen_left m ds part owner d l c named can e left =
+    let n = mapped (λ (n : ℕ). (n, l)) (class_of m d) c e in
+    let is_true : l ≡ true = ap (λ (r : ℕ × Bool). r.1) n.2 ∙ left in
+    let may = readable part d (can ∙ ap (λ (b : Bool). Some b) is_true) in
+    record { d = d; open_here = open_from ds part owner d named may; class = n.1 ∙ ap (λ (r : ℕ × Bool). Some r.0) n.2 }
 
 seen_node : (m : Metamodel) (ds : List DeclaredNode) (part : Home) (owner : List ℕ) (c : ℕ × Bool) → node_read m ds part owner ≡ Some c → c.1 ≡ true → Seen m ds part owner c.0
 seen_node m ds part owner c e left =
     let d = came (node_named ds owner) (λ (node : DeclaredNode). option_and_then (λ (l : Bool). option_map (λ (n : ℕ). (n, l)) (class_of m node)) (can_read part node)) c e in
     let l = came (can_read part d.0) (λ (l : Bool). option_map (λ (n : ℕ). (n, l)) (class_of m d.0)) c d.2 in
-    let n = mapped (λ (n : ℕ). (n, l.0)) (class_of m d.0) c l.2 in
-    let is_true : l.0 ≡ true = ap (λ (r : ℕ × Bool). r.1) n.2 ∙ left in
-    let may = readable part d.0 (l.1 ∙ ap (λ (b : Bool). Some b) is_true) in
-    record {
-      d = d.0;
-      open_here = ap (option_and_then (λ (node : DeclaredNode). if is_open part node then Some node else None)) d.1 ∙ ap (λ (b : Bool). if b then Some d.0 else None) may.0;
-      class = n.1 ∙ ap (λ (r : ℕ × Bool). Some r.0) n.2;
-      left = may.1;
-    }
+    seen_left m ds part owner d.0 l.0 c d.1 l.1 l.2 left
 
 -- The kind of a slot is that of the attribute.
 slot_is : (m : Metamodel) (nodes : List PatternNode) (n a : ℕ) (k : Kind) → slot_kind m nodes n a ≡ Some k → option_map kind_of_type (type_of m a) ≡ Some k

@@ -85,12 +85,17 @@ module _ (m : Metamodel) (rule : Rule) (clean : Clean m rule) (part : Home) (bef
       let low : length before ≤ node_number nodes is.made.node.text = subst (λ n. length before ≤ n) (sym (number_at_spot m nodes is.made.node.text d is.spot)) (opens.own is.made.node.text d is.sound.written_open is.sound.own) in
       let there : has (attributes_of m (class_meant m d.class.text)) is.at.number ≡ true = has-kept (λ f. is_some (type_of m f)) (features_of m (class_meant m d.class.text)) is.at.number (found-has (is_named m is.made.attribute.text) (features_of m (class_meant m d.class.text)) is.at.number is.at.named) (ap is_some is.at.typed) in
       let of_kind : kind_in (scope_in m rule part before) is.made.e ≡ option_map kind_of_type (type_of m is.at.number) = value.0 ∙ ap Some (sym is.at.kind_is) ∙ sym (ap (option_map kind_of_type) is.at.typed) in
-      subst (λ (item : SetItem). ((length before ≤ item.node) × SetFits m (scope_in m rule part before) nodes item) × All (IsKnown (scope_in m rule part before)) (reads_of item.value)) is.made.whole
-      ((low, set_at m (scope_in m rule part before) nodes (set_meant m nodes is.made.node.text is.made.attribute.text is.made.e) (node_meant m d)
-        (node_at_spot m nodes is.made.node.text d is.spot)
-        (stays_is d.mark is.sound.stays)
-        (ap (has (attributes_of m (class_meant m d.class.text))) number ∙ there)
-        (of_kind ∙ ap (λ f. option_map kind_of_type (type_of m f)) (sym number))), value.1)
+      subst (λ (item : SetItem). ((length before ≤ item.node) × SetFits m (scope_in m rule part before) nodes item) × All (IsKnown (scope_in m rule part before)) (reads_of item.value)) is.made.whole (
+        (
+          low,
+          set_at m (scope_in m rule part before) nodes (set_meant m nodes is.made.node.text is.made.attribute.text is.made.e) (node_meant m d)
+              (node_at_spot m nodes is.made.node.text d is.spot)
+              (stays_is d.mark is.sound.stays)
+              (ap (has (attributes_of m (class_meant m d.class.text))) number ∙ there)
+              (of_kind ∙ ap (λ f. option_map kind_of_type (type_of m f)) (sym number)),
+        ),
+        value.1,
+      )
 
   pub sets_fit : All (λ item. (length before ≤ item.node) × SetFits m (scope_in m rule part before) (open_nodes m rule part before) item) (sets_in m (params_meant m rule.params) (open_nodes m rule part before) (statements rule.items) part)
   sets_fit = All-filter_map (λ (item : SetItem). (length before ≤ item.node) × SetFits m (scope_in m rule part before) (open_nodes m rule part before) item)
@@ -103,15 +108,15 @@ module _ (m : Metamodel) (rule : Rule) (clean : Clean m rule) (part : Home) (bef
   pub sets_once : SetOnce (sets_in m (params_meant m rule.params) (open_nodes m rule part before) (statements rule.items) part)
   sets_once = EachPair-filter_map (λ (a b : SetItem). (a.node ≡ b.node) × (a.attribute ≡ b.attribute) → ⊥) (set_in m (params_meant m rule.params) (open_nodes m rule part before) part) (statements rule.items)
       (λ i j s t a b low at_i at_j made_a made_b same.
-        let first = set_known i s a at_i made_a in
-        let second = set_known j t b at_j made_b in
-        let nodes = open_nodes m rule part before in
-        let number_same : node_number nodes first.made.node.text ≡ node_number nodes second.made.node.text = ap (λ (x : SetItem). x.node) first.made.whole ∙ same.0 ∙ sym (ap (λ (x : SetItem). x.node) second.made.whole) in
-        let node_same = nodes_same m nodes first.made.node.text second.made.node.text first.sound.written second.sound.written first.spot second.spot number_same in
-        let feature_same : first.at.number ≡ second.at.number = sym first.at.number_is ∙ ap (λ (x : SetItem). x.attribute) first.made.whole ∙ same.1 ∙ sym (ap (λ (x : SetItem). x.attribute) second.made.whole) ∙ second.at.number_is in
-        let attribute_same = features_same m (class_meant m first.sound.written.class.text) (class_meant m second.sound.written.class.text) second.at.number first.made.attribute.text second.made.attribute.text (first.at.named ∙ ap Some feature_same) second.at.named in
-        let here : list_any (λ (slot : Slot). same_text second.made.node.text slot.node && same_text second.made.attribute.text slot.attribute) (slot_of s) ≡ true =
-            ap (λ (u : Statement). list_any (λ (slot : Slot). same_text second.made.node.text slot.node && same_text second.made.attribute.text slot.attribute) (slot_of u)) first.made.is
-            ∙ or_false (same_text second.made.node.text first.made.node.text && same_text second.made.attribute.text first.made.attribute.text) false
-              (and_from (same_text second.made.node.text first.made.node.text) (same_text second.made.attribute.text first.made.attribute.text) (is_text second.made.node.text first.made.node.text (sym node_same)) (is_text second.made.attribute.text first.made.attribute.text (sym attribute_same))) in
-        false≢true (sym second.sound.new ∙ set_before (statements rule.items) i j part s second.made.node.text second.made.attribute.text low at_i here))
+      let first = set_known i s a at_i made_a in
+      let second = set_known j t b at_j made_b in
+      let nodes = open_nodes m rule part before in
+      let number_same : node_number nodes first.made.node.text ≡ node_number nodes second.made.node.text = ap (λ (x : SetItem). x.node) first.made.whole ∙ same.0 ∙ sym (ap (λ (x : SetItem). x.node) second.made.whole) in
+      let node_same = nodes_same m nodes first.made.node.text second.made.node.text first.sound.written second.sound.written first.spot second.spot number_same in
+      let feature_same : first.at.number ≡ second.at.number = sym first.at.number_is ∙ ap (λ (x : SetItem). x.attribute) first.made.whole ∙ same.1 ∙ sym (ap (λ (x : SetItem). x.attribute) second.made.whole) ∙ second.at.number_is in
+      let attribute_same = features_same m (class_meant m first.sound.written.class.text) (class_meant m second.sound.written.class.text) second.at.number first.made.attribute.text second.made.attribute.text (first.at.named ∙ ap Some feature_same) second.at.named in
+      let here : list_any (λ (slot : Slot). same_text second.made.node.text slot.node && same_text second.made.attribute.text slot.attribute) (slot_of s) ≡ true =
+      ap (λ (u : Statement). list_any (λ (slot : Slot). same_text second.made.node.text slot.node && same_text second.made.attribute.text slot.attribute) (slot_of u)) first.made.is
+      ∙ or_false (same_text second.made.node.text first.made.node.text && same_text second.made.attribute.text first.made.attribute.text) false
+      (and_from (same_text second.made.node.text first.made.node.text) (same_text second.made.attribute.text first.made.attribute.text) (is_text second.made.node.text first.made.node.text (sym node_same)) (is_text second.made.attribute.text first.made.attribute.text (sym attribute_same))) in
+      false≢true (sym second.sound.new ∙ set_before (statements rule.items) i j part s second.made.node.text second.made.attribute.text low at_i here))

@@ -59,7 +59,7 @@ clean_from finds n (y ∷ ys) e (suc k) x at =
     ap (λ i. finds i x) later ∙ clean_from finds (n + 1) ys (empty_parts (finds n y) (each_from finds (n + 1) ys) e).1 k x at
 
 -- Nothing is found at an item of a list where nothing is found.
-pub clean_at : {X E : Type 0} (finds : ℕ → X → List E) (xs : List X) → each finds xs ≡ [] → (k : ℕ) (x : X) → slice_get xs k ≡ Some x → finds k x ≡ []
+clean_at : {X E : Type 0} (finds : ℕ → X → List E) (xs : List X) → each finds xs ≡ [] → (k : ℕ) (x : X) → slice_get xs k ≡ Some x → finds k x ≡ []
 clean_at finds xs e k x at = ap (λ i. finds i x) (sym (zero-add k)) ∙ clean_from finds 0 xs e k x at
 
 -- ---- definitions in steps
@@ -76,7 +76,7 @@ pub steps-ok : {A B F : Type 0} (c : Result A F) (next : A → Result B F) (r : 
 steps-ok (Err f) next r e = cc
 steps-ok (Ok x) next r e = (x, refl, e)
 
-pub demanded : {F : Type 0} (test : Bool) (fault : F) → demand test fault ≡ Ok tt → test ≡ true
+demanded : {F : Type 0} (test : Bool) (fault : F) → demand test fault ≡ Ok tt → test ≡ true
 demanded false fault e = cc
 demanded true fault e = refl
 
@@ -92,7 +92,7 @@ pub record KnownClass (m : Metamodel) (created : Bool) (class : Name) : Type 0 w
   pub named : class_named m class.text ≡ Some number
   pub fine : has_objects m created class ≡ true
 
-pub known_class : (m : Metamodel) (created : Bool) (class : Name) → class_faults m created class ≡ [] → KnownClass m created class
+known_class : (m : Metamodel) (created : Bool) (class : Name) → class_faults m created class ≡ [] → KnownClass m created class
 known_class m created class e =
     let parts = empty_parts (fault_if (not (is_some (class_named m class.text))) _) (fault_if (not (has_objects m created class)) _) e in
     go (class_named m class.text) refl (yes_test (is_some (class_named m class.text)) _ parts.0) (yes_test (has_objects m created class) _ parts.1)
@@ -186,7 +186,7 @@ sound_edge m nodes home mark source target reference e =
     let first = and_parts (is_of_class m class.0 to.0) (may_join home mark from.0.mark) both.0 in
     record { from = from.0; to = to.0; class = class.0; from_open = from.1; to_open = to.1; leads = class.1; below = first.0; joins_from = first.1; joins_to = both.1 }
 
-pub kinds_same : (a b : Kind) → same_kind a b ≡ true → a ≡ b
+kinds_same : (a b : Kind) → same_kind a b ≡ true → a ≡ b
 kinds_same sort.Int sort.Int e = refl
 kinds_same sort.Bool sort.Bool e = refl
 kinds_same sort.Text sort.Text e = refl

@@ -42,7 +42,7 @@ differ_before : {A B : Type 0} (f : A → B) (xs : List A) → Differ (map f xs)
 differ_before f [] d = tt
 differ_before f (x ∷ xs) d = (apart_before f x xs d.0, differ_before f xs d.1)
 
-pub features_differ : (m : Metamodel) → IsMeta m → (c : ℕ) → Differ (features_of m c)
+features_differ : (m : Metamodel) → IsMeta m → (c : ℕ) → Differ (features_of m c)
 features_differ m is c = go (class_at m c) refl
   where
     go : (o : Option Class) → class_at m c ≡ o → Differ (unwrap_or (option_map (λ (class : Class). class.features) o) [])
@@ -114,7 +114,7 @@ any_each p finds n [] i k x e at is = absurd (none-some x at)
 any_each p finds n (y ∷ xs) zero k x e at is =
     list_any-append p (finds n y) (each_from finds (n + 1) xs)
     ∙ or_left (list_any p (finds n y)) (list_any p (each_from finds (n + 1) xs))
-      (ap (λ z. list_any p (finds n z)) (same_Some y x at) ∙ ap (λ j. list_any p (finds j x)) (let same : n ≡ k = omega arith in same) ∙ is)
+    (ap (λ z. list_any p (finds n z)) (same_Some y x at) ∙ ap (λ j. list_any p (finds j x)) (let same : n ≡ k = omega arith in same) ∙ is)
 any_each p finds n (y ∷ xs) (suc i) k x e at is =
     list_any-append p (finds n y) (each_from finds (n + 1) xs)
     ∙ or_right (list_any p (finds n y)) (list_any p (each_from finds (n + 1) xs)) (any_each p finds (n + 1) xs i k x (omega arith) at is)
@@ -149,8 +149,8 @@ in_order_from m is nodes reads sets first (node ∷ own) at =
     (in_class m is nodes reads sets first node (ap (slice_get nodes) (let e : first ≡ first + 0 = omega arith in e) ∙ at 0 node refl))
     (in_order_from m is nodes reads sets (first + 1) own (λ i n here. ap (slice_get nodes) (let e : first + 1 + i ≡ first + suc i = omega arith in e) ∙ at (suc i) n here))
     (all_at m (λ (s : PatternSlot). All (SlotBefore m nodes s) (each_from (slots_at m reads sets) (first + 1) own)) reads sets first node (λ left a t.
-      All-each_from (SlotBefore m nodes (slot_at sets first a)) (slots_at m reads sets) (first + 1) own (λ i n here.
-        all_at m (SlotBefore m nodes (slot_at sets first a)) reads sets (first + 1 + i) n (λ left_too b u. inl (let low : first < first + 1 + i = omega arith in low)))))
+    All-each_from (SlotBefore m nodes (slot_at sets first a)) (slots_at m reads sets) (first + 1) own (λ i n here.
+    all_at m (SlotBefore m nodes (slot_at sets first a)) reads sets (first + 1 + i) n (λ left_too b u. inl (let low : first < first + 1 + i = omega arith in low)))))
 
 -- ---- all of it
 
@@ -265,8 +265,8 @@ are_slots m is scope before own reads those sets few same all_known all_fit = su
       (λ i node here left a t. (let low : length before ≤ length before + i = omega arith in low, rw (placed before own i node here) left));
   needed = of_each m (λ (slot : PatternSlot). ((is_read those slot || is_set sets slot) ≡ true) × (slot.written ≡ is_set sets slot)) before own reads sets
       (λ i node here left a t.
-        let below = slice_get_within own i node here in
-        (ap (λ b. b || is_set_at sets (length before + i) a) (sym (same (length before + i) a (omega arith) (omega arith))) ∙ t, refl));
+      let below = slice_get_within own i node here in
+      (ap (λ b. b || is_set_at sets (length before + i) a) (sym (same (length before + i) a (omega arith) (omega arith))) ∙ t, refl));
   all_read = all_read_there m before own reads those sets same all_known;
   all_set = all_set_there m scope before own reads sets all_fit;
 })
