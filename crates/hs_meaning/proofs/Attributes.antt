@@ -1,5 +1,5 @@
 -- The attributes of a class.
-use Rattle.std.proofs.Common.{ℕ, ◌≡◌, Bool, ◌&&◌, eqb, is_some, sym, ap}
+use Rattle.std.proofs.Common.{ℕ, ◌≡◌, ◌&&◌, eqb, is_some, sym, ap}
 use Rattle.std.proofs.lemmas.Bool.{eqb-true}
 use Rattle.std.proofs.lemmas.Map.Views.{any-filter_same}
 use Rattle.hs_types.specs.declared.meta.Metamodel.{Metamodel}

@@ -49,9 +49,9 @@ pub fn units_tried()
         ∷ [])
         ≡ record { name = codes "v"; params = []; body = body.Sequential (record { callee = callee.Unit 1; binds = [] } ∷ []) }
         ∷ record {
-            name = codes "u";
-            params = record { direction = In; name = codes "x"; kind = Object 0 } ∷ [];
-            body = body.Sequential (record { callee = callee.Rule 0; binds = bind.Give (codes "a") (atom.Name (codes "x")) ∷ bind.Give (codes "n") (atom.Value (value.Int (negsuc 4))) ∷ bind.Take (codes "c") (codes "y") ∷ [] } ∷ []);
-          }
+          name = codes "u";
+          params = record { direction = In; name = codes "x"; kind = Object 0 } ∷ [];
+          body = body.Sequential (record { callee = callee.Rule 0; binds = bind.Give (codes "a") (atom.Name (codes "x")) ∷ bind.Give (codes "n") (atom.Value (value.Int (negsuc 4))) ∷ bind.Take (codes "c") (codes "y") ∷ [] } ∷ []);
+        }
         ∷ [] }
 {}

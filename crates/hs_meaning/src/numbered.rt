@@ -86,12 +86,7 @@ pub fn is_left(mark: Mark) -> bool
 }
 
 /// The kind of the slot of this attribute at the node of this number, where it can be read.
-fn slot_kind(
-    meta: &Meta,
-    nodes: &OpenNodes<'_>,
-    number: u16,
-    attribute: FeatureNo,
-) -> Option<Kind>
+fn slot_kind(meta: &Meta, nodes: &OpenNodes<'_>, number: u16, attribute: FeatureNo) -> Option<Kind>
     ensures { result ≡ slot_kind meta.now nodes.now number attribute }
 {
     let node = nodes.get(number)?;

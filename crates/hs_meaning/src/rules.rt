@@ -71,7 +71,7 @@ fn parts_meant(
     Ok(parts)
 }
 
-fn multis_meant(
+fn multis_at(
     alloc: Global,
     meta: &Meta,
     said: &Sayings<'_>,
@@ -88,6 +88,20 @@ fn multis_meant(
     Ok(multis)
 }
 
+fn multis_meant(
+    alloc: Global,
+    meta: &Meta,
+    rule: &WrittenRule,
+    said: &Sayings<'_>,
+    kernel: &[PatternNode],
+) -> Result<List<Multi>, AllocError>
+    requires whole { All IsWhole said.now.statements }
+    ensures { IfOk result (λ multis. multis ≡ map (spec.multi_meant meta.now said.now kernel.now) (each spec.multi_at rule.now.items)) }
+{
+    let homes = multis(alloc, rule.items.as_slice())?;
+    multis_at(alloc, meta, said, kernel, homes.as_slice())
+}
+
 fn add_reads_of_multis(reads: &mut List<SlotRead>, multis: &[Multi]) -> Result<(), AllocError>
     ensures { OnOk result (reads.new ≡ reads.old ++ flat_map (λ multi. reads_in multi.wheres multi.sets) multis.now) }
 {
@@ -98,11 +112,7 @@ fn add_reads_of_multis(reads: &mut List<SlotRead>, multis: &[Multi]) -> Result<(
 }
 
 /// What a rule reads, its multi-rules included.
-fn reads_with(
-    alloc: Global,
-    kernel: &Block,
-    multis: &[Multi],
-) -> Result<List<SlotRead>, AllocError>
+fn reads_with(alloc: Global, kernel: &Block, multis: &[Multi]) -> Result<List<SlotRead>, AllocError>
     ensures { IfOk result (λ reads. reads ≡ spec.reads_with kernel.now multis.now) }
 {
     let mut reads = List::new(alloc);
@@ -195,17 +205,10 @@ fn rule_around(
     said: Sayings<'_>,
     kernel: Block,
 ) -> Result<Rule, AllocError>
-    requires whole { All IsWhole said.entry.statements }
+    requires whole { All IsWhole said.statements }
     ensures { IfOk result (λ meant. meant ≡ spec.rule_around meta.now rule.now said.entry kernel) }
 {
-    let homes = multis(alloc, rule.items.as_slice())?;
-    let multis = multis_meant(
-        alloc,
-        meta,
-        &said,
-        kernel.nodes.as_slice(),
-        homes.as_slice(),
-    )?;
+    let multis = multis_meant(alloc, meta, rule, &said, kernel.nodes.as_slice())?;
     rule_with(alloc, meta, rule, said, kernel, multis)
 }
 

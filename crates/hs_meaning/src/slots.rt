@@ -129,7 +129,14 @@ fn add_slots_of(
 {
     match u16::try_from(place) {
         Ok(number) if is_left(node.mark) => {
-            add_slots_among(slots, meta, reads, sets, number, meta.features_of(node.class))
+            add_slots_among(
+                slots,
+                meta,
+                reads,
+                sets,
+                number,
+                meta.features_of(node.class),
+            )
         }
         _ => Ok(()),
     }

@@ -60,7 +60,9 @@ fn atom_meant(atom: &WrittenAtom) -> Result<Atom, AllocError>
     ensures { IfOk result (λ meant. meant ≡ spec.atom_meant atom.now) }
 {
     match atom {
-        WrittenAtom::Int { minus, value, .. } => Ok(Atom::Value(Value::Int(signed(*minus, *value)))),
+        WrittenAtom::Int { minus, value, .. } => Ok(Atom::Value(Value::Int(signed(
+            *minus, *value,
+        )))),
         WrittenAtom::Text { value, .. } => Ok(Atom::Value(Value::Text(value.clone()?))),
         WrittenAtom::Bool { value, .. } => Ok(Atom::Value(Value::Bool(*value))),
         WrittenAtom::Name(name) => Ok(Atom::Name(name.text.clone()?)),
