@@ -24,7 +24,7 @@ mod rules;
 mod scope;
 mod second_pass;
 mod signature;
-mod statements;
+pub mod statements;
 #[cfg(test)]
 mod tests;
 mod third_pass;
@@ -34,7 +34,9 @@ mod units;
 mod written;
 
 pub use checking::{check, check_units};
+pub use edges::same_home;
 pub use examples::{calls_tried, cycles_tried, edges_tried, names_tried, sets_tried, units_tried};
 pub use fault::{RuleFault, RuleFaultKind};
-pub use nodes::{DeclaredNode, Home};
+pub use names::{class_named, data_named, feature_named, kind_of_type};
+pub use nodes::{DeclaredNode, Home, declared_nodes};
 pub use rules::check_rules;

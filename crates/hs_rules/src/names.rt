@@ -73,7 +73,7 @@ pub fn type_named(meta: &Meta, class: ClassNo, name: &str) -> Option<DataType>
 }
 
 /// The first of the class's features that has this name.
-fn feature_named(meta: &Meta, class: ClassNo, name: &str) -> Option<FeatureNo>
+pub fn feature_named(meta: &Meta, class: ClassNo, name: &str) -> Option<FeatureNo>
     ensures { result ≡ spec.feature_named meta.now class name.now }
 {
     first_named(meta, meta.features_of(class), name)
@@ -112,7 +112,8 @@ pub fn kind_named(meta: &Meta, class: ClassNo, name: &str) -> Option<Kind>
     Some(kind_of_type(data_type))
 }
 
-fn kind_of_type(data_type: DataType) -> Kind
+/// The kind of the values that a data type has.
+pub fn kind_of_type(data_type: DataType) -> Kind
     ensures { result ≡ kind_of_type data_type }
 {
     match data_type {

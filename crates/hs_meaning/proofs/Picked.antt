@@ -1,0 +1,211 @@
+-- Items of lists: what is picked out of a list, what is made of each, and what is found by a test.
+use Rattle.std.proofs.Common.{ℕ, zero, suc, ◌+◌, ◌<◌, ◌≤◌, ◌≡◌, ◌++◌, List, [], ◌∷◌, Bool, true, false, not, cond, map, length, take, get_or, slice_get, Option, Some, None, is_some, refl, ap, sym, ◌∙◌, subst, arith, add-zero}
+use Rattle.std.proofs.lemmas.Bool.{false≢true}
+use Rattle.std.proofs.lemmas.List.Elements.{All-append, All-cons, All-head, All-nil, All-tail}
+use Rattle.std.proofs.lemmas.Option.{get_or_from_slice_get, none-some, same_Some, slice_get-get_or, slice_get_within}
+use Rattle.std.specs.List.{All, cons_option, filter, filter_map, find, flat_map, position_or_len}
+use Rattle.hs_expr.specs.Verdict.{each_from}
+use Rattle.hs_types.specs.Lists.{EachPair}
+
+-- ---- at a place
+
+-- An item of a list has what all items have.
+pub All-at : {A : Type 0} (P : A → Type 0) (xs : List A) (i : ℕ) (x : A) → All P xs → slice_get xs i ≡ Some x → P x
+All-at P xs i x a at = subst P (get_or_from_slice_get xs i x x at) (a i x (slice_get_within xs i x at))
+
+-- All items have what each has at its place.
+pub All-from : {A : Type 0} (P : A → Type 0) (xs : List A) → ((i : ℕ) (x : A) → slice_get xs i ≡ Some x → P x) → All P xs
+All-from P xs h = λ k d low. h k (get_or xs k d) (slice_get-get_or xs k d low)
+
+-- The relation holds between all items where it holds at each two places.
+pub EachPair-from : {A : Type 0} (R : A → A → Type 0) (xs : List A) → ((i j : ℕ) (x y : A) → i < j → slice_get xs i ≡ Some x → slice_get xs j ≡ Some y → R x y) → EachPair R xs
+EachPair-from R [] h = tt
+EachPair-from R (x ∷ xs) h = (
+  All-from (R x) xs (λ j y at. h 0 (suc j) x y (omega arith) refl at),
+  EachPair-from R xs (λ i j y z low at_i at_j. h (suc i) (suc j) y z (omega arith) at_i at_j),
+)
+
+pub EachPair-append : {A : Type 0} (R : A → A → Type 0) (xs ys : List A) → EachPair R xs → EachPair R ys → All (λ x. All (R x) ys) xs → EachPair R (xs ++ ys)
+EachPair-append R [] ys a b h = b
+EachPair-append {A} R (x ∷ xs) ys a b h = (
+  All-append (R x) xs ys a.0 (All-head (λ (x : A). All (R x) ys) x xs h),
+  EachPair-append R xs ys a.1 b (All-tail (λ (x : A). All (R x) ys) x xs h),
+)
+
+pub EachPair-map : {A B : Type 0} (R : B → B → Type 0) (f : A → B) (xs : List A) → EachPair (λ x y. R (f x) (f y)) xs → EachPair R (map f xs)
+EachPair-map R f [] d = tt
+EachPair-map R f (x ∷ xs) d = (all_mapped (R (f x)) f xs d.0, EachPair-map R f xs d.1)
+  where
+    all_mapped : {A B : Type 0} (P : B → Type 0) (f : A → B) (xs : List A) → All (λ x. P (f x)) xs → All P (map f xs)
+    all_mapped P f [] a = All-nil P
+    all_mapped {A} P f (x ∷ xs) a = All-cons P (f x) (map f xs) (All-head (λ (x : A). P (f x)) x xs a) (all_mapped P f xs (All-tail (λ (x : A). P (f x)) x xs a))
+
+pub slice_get-take : {A : Type 0} (xs : List A) (n i : ℕ) → i < n → slice_get (take n xs) i ≡ slice_get xs i
+slice_get-take xs zero i h = absurd (omega arith)
+slice_get-take [] (suc n) i h = refl
+slice_get-take (x ∷ xs) (suc n) zero h = refl
+slice_get-take (x ∷ xs) (suc n) (suc i) h = slice_get-take xs n i (omega arith)
+
+-- What comes behind goes on from the end of the front.
+pub slice_get-behind : {A : Type 0} (xs ys : List A) (i n : ℕ) → n ≡ length xs + i → slice_get (xs ++ ys) n ≡ slice_get ys i
+slice_get-behind [] ys i n e = let same : n ≡ i = omega arith in ap (slice_get ys) same
+slice_get-behind (x ∷ xs) ys i zero e = absurd (omega arith)
+slice_get-behind (x ∷ xs) ys i (suc n) e = slice_get-behind xs ys i n (omega arith)
+
+-- ---- picked items
+
+-- What is made of an item, where it passes the test.
+abbrev pub where_passes : {A B : Type 0} → (A → Bool) → (A → B) → A → Option B
+where_passes test f x = cond (test x) (Some (f x)) None
+
+pub filtered : {A B : Type 0} (test : A → Bool) (f : A → B) (xs : List A) → map f (filter test xs) ≡ filter_map (where_passes test f) xs
+filtered test f [] = refl
+filtered test f (x ∷ xs) = go (test x) (filtered test f xs)
+  where
+    go : (b : Bool) → map f (filter test xs) ≡ filter_map (where_passes test f) xs → map f (cond b (x ∷ filter test xs) (filter test xs)) ≡ cons_option (cond b (Some (f x)) None) (filter_map (where_passes test f) xs)
+    go true rest = ap (λ ys. f x ∷ ys) rest
+    go false rest = rest
+
+pub passes : {A B : Type 0} (test : A → Bool) (f : A → B) (x : A) (y : B) → where_passes test f x ≡ Some y → (test x ≡ true) × (f x ≡ y)
+passes test f x y e = go (test x) e
+  where
+    go : (b : Bool) → cond b (Some (f x)) None ≡ Some y → (b ≡ true) × (f x ≡ y)
+    go true e = (refl, same_Some (f x) y e)
+    go false e = absurd (none-some y e)
+
+-- What holds of all that is made of the items.
+pub All-filter_map : {A B : Type 0} (P : B → Type 0) (f : A → Option B) (xs : List A) → ((k : ℕ) (x : A) (y : B) → slice_get xs k ≡ Some x → f x ≡ Some y → P y) → All P (filter_map f xs)
+All-filter_map P f [] h = All-nil P
+All-filter_map {A} {B} P f (x ∷ xs) h = go (f x) refl (All-filter_map P f xs (λ k z y at. h (suc k) z y at))
+  where
+    go : (o : Option B) → f x ≡ o → All P (filter_map f xs) → All P (cons_option o (filter_map f xs))
+    go None is rest = rest
+    go (Some y) is rest = All-cons P y (filter_map f xs) (h 0 x y refl is) rest
+
+pub EachPair-filter_map : {A B : Type 0} (R : B → B → Type 0) (f : A → Option B) (xs : List A) → ((i j : ℕ) (x y : A) (a b : B) → i < j → slice_get xs i ≡ Some x → slice_get xs j ≡ Some y → f x ≡ Some a → f y ≡ Some b → R a b) → EachPair R (filter_map f xs)
+EachPair-filter_map R f [] h = tt
+EachPair-filter_map {A} {B} R f (x ∷ xs) h = go (f x) refl (EachPair-filter_map R f xs (λ i j y z a b low at_i at_j. h (suc i) (suc j) y z a b (omega arith) at_i at_j))
+  where
+    go : (o : Option B) → f x ≡ o → EachPair R (filter_map f xs) → EachPair R (cons_option o (filter_map f xs))
+    go None is rest = rest
+    go (Some a) is rest = (All-filter_map (R a) f xs (λ k y b at made. h 0 (suc k) x y a b (omega arith) refl at is made), rest)
+
+pub EachPair-filter : {A : Type 0} (R : A → A → Type 0) (p : A → Bool) (xs : List A) → EachPair R xs → EachPair R (filter p xs)
+EachPair-filter R p [] d = tt
+EachPair-filter {A} R p (x ∷ xs) d = go (p x) (EachPair-filter R p xs d.1) (all_kept (R x) xs d.0)
+  where
+    all_kept : (P : A → Type 0) (xs : List A) → All P xs → All P (filter p xs)
+    all_kept P [] a = All-nil P
+    all_kept P (x ∷ xs) a = step (p x) (all_kept P xs (All-tail P x xs a))
+      where
+        step : (b : Bool) → All P (filter p xs) → All P (cond b (x ∷ filter p xs) (filter p xs))
+        step true rest = All-cons P x (filter p xs) (All-head P x xs a) rest
+        step false rest = rest
+
+    go : (b : Bool) → EachPair R (filter p xs) → All (R x) (filter p xs) → EachPair R (cond b (x ∷ filter p xs) (filter p xs))
+    go true rest a = (a, rest)
+    go false rest a = rest
+
+-- No more is made than items pass a test that each of which something is made passes.
+pub fewer_made : {A B : Type 0} (p : A → Bool) (f : A → Option B) (xs : List A) → ((k : ℕ) (x : A) (y : B) → slice_get xs k ≡ Some x → f x ≡ Some y → p x ≡ true) → length (filter_map f xs) ≤ length (filter p xs)
+fewer_made p f [] h = omega arith
+fewer_made {A} {B} p f (x ∷ xs) h = go (p x) (f x) refl refl (fewer_made p f xs (λ k z y at. h (suc k) z y at))
+  where
+    go : (b : Bool) (o : Option B) → p x ≡ b → f x ≡ o → length (filter_map f xs) ≤ length (filter p xs) → length (cons_option o (filter_map f xs)) ≤ length (cond b (x ∷ filter p xs) (filter p xs))
+    go true (Some y) t is rest = omega arith
+    go true None t is rest = omega arith
+    go false None t is rest = rest
+    go false (Some y) t is rest = absurd (false≢true (sym t ∙ h 0 x y refl is))
+
+-- Of what is made no more passes a test than items pass another, where each of which such is made does.
+pub fewer_pass : {A B : Type 0} (p : A → Bool) (q : B → Bool) (f : A → Option B) (xs : List A) → ((k : ℕ) (x : A) (y : B) → slice_get xs k ≡ Some x → f x ≡ Some y → q y ≡ true → p x ≡ true) → length (filter q (filter_map f xs)) ≤ length (filter p xs)
+fewer_pass p q f [] h = omega arith
+fewer_pass {A} {B} p q f (x ∷ xs) h = go (p x) (f x) refl refl (fewer_pass p q f xs (λ k z y at. h (suc k) z y at))
+  where
+    made : (b c : Bool) (y : B) → p x ≡ b → f x ≡ Some y → q y ≡ c → length (filter q (filter_map f xs)) ≤ length (filter p xs) → length (cond c (y ∷ filter q (filter_map f xs)) (filter q (filter_map f xs))) ≤ length (cond b (x ∷ filter p xs) (filter p xs))
+    made true true y t is s rest = omega arith
+    made true false y t is s rest = omega arith
+    made false true y t is s rest = absurd (false≢true (sym t ∙ h 0 x y refl is s))
+    made false false y t is s rest = rest
+
+    go : (b : Bool) (o : Option B) → p x ≡ b → f x ≡ o → length (filter q (filter_map f xs)) ≤ length (filter p xs) → length (filter q (cons_option o (filter_map f xs))) ≤ length (cond b (x ∷ filter p xs) (filter p xs))
+    go b (Some y) t is rest = made b (q y) y t is refl rest
+    go true None t is rest = omega arith
+    go false None t is rest = rest
+
+-- ---- lists that are made item by item
+
+pub All-each_from : {A B : Type 0} (P : B → Type 0) (finds : ℕ → A → List B) (n : ℕ) (xs : List A) → ((i : ℕ) (x : A) → slice_get xs i ≡ Some x → All P (finds (n + i) x)) → All P (each_from finds n xs)
+All-each_from P finds n [] h = All-nil P
+All-each_from P finds n (x ∷ xs) h =
+    All-append P (finds n x) (each_from finds (n + 1) xs)
+    (subst (λ k. All P (finds k x)) (add-zero n) (h 0 x refl))
+    (All-each_from P finds (n + 1) xs (λ i y at. subst (λ k. All P (finds k y)) (let e : n + suc i ≡ n + 1 + i = omega arith in e) (h (suc i) y at)))
+
+pub All-flat_map : {A B : Type 0} (P : B → Type 0) (f : A → List B) (xs : List A) → ((x : A) → All P (f x)) → All P (flat_map f xs)
+All-flat_map P f [] h = All-nil P
+All-flat_map P f (x ∷ xs) h = All-append P (f x) (flat_map f xs) (h x) (All-flat_map P f xs h)
+
+-- ---- found by a test
+
+pub find_here : {A : Type 0} (p : A → Bool) (xs : List A) (x : A) → find p xs ≡ Some x → (k : ℕ) × (slice_get xs k ≡ Some x) × (p x ≡ true)
+find_here p [] x e = absurd (none-some x e)
+find_here {A} p (z ∷ xs) x e = go (p z) refl e (find_here p xs x)
+  where
+    go : (b : Bool) → p z ≡ b → cond b (Some z) (find p xs) ≡ Some x → (find p xs ≡ Some x → (k : ℕ) × (slice_get xs k ≡ Some x) × (p x ≡ true)) → (k : ℕ) × (slice_get (z ∷ xs) k ≡ Some x) × (p x ≡ true)
+    go true t e rest = (0, e, ap p (sym (same_Some z x e)) ∙ t)
+    go false t e rest = let found = rest e in (suc found.0, found.1, found.2)
+
+pub find_none : {A : Type 0} (p : A → Bool) (xs : List A) → All (λ x. p x ≡ false) xs → find p xs ≡ None
+find_none p [] a = refl
+find_none {A} p (x ∷ xs) a = go (p x) (All-head (λ (x : A). p x ≡ false) x xs a) (find_none p xs (All-tail (λ (x : A). p x ≡ false) x xs a))
+  where
+    go : (b : Bool) → b ≡ false → find p xs ≡ None → cond b (Some x) (find p xs) ≡ None
+    go true e rest = absurd (false≢true (sym e))
+    go false e rest = rest
+
+-- An item that passes is found, or one before it.
+pub find_some : {A : Type 0} (p : A → Bool) (xs : List A) (i : ℕ) (x : A) → slice_get xs i ≡ Some x → p x ≡ true → is_some (find p xs) ≡ true
+find_some p [] i x at e = absurd (none-some x at)
+find_some {A} p (z ∷ xs) zero x at e = go (p z) (ap p (same_Some z x at) ∙ e)
+  where
+    go : (b : Bool) → b ≡ true → is_some (cond b (Some z) (find p xs)) ≡ true
+    go true e = refl
+    go false e = absurd (false≢true e)
+find_some {A} p (z ∷ xs) (suc i) x at e = go (p z) (find_some p xs i x at e)
+  where
+    go : (b : Bool) → is_some (find p xs) ≡ true → is_some (cond b (Some z) (find p xs)) ≡ true
+    go true e = refl
+    go false e = e
+
+-- What is made of the first that passes is the first of what is made, where the tests agree.
+pub find-filter_map : {A B : Type 0} (p : A → Bool) (q : B → Bool) (f : A → Option B) (xs : List A) (x : A) (y : B) → ((z : A) (w : B) → f z ≡ Some w → q w ≡ p z) → find p xs ≡ Some x → f x ≡ Some y → find q (filter_map f xs) ≡ Some y
+find-filter_map p q f [] x y agree e made = absurd (none-some x e)
+find-filter_map {A} {B} p q f (z ∷ xs) x y agree e made = go (p z) refl e (find-filter_map p q f xs x y agree)
+  where
+    chosen : (b : Bool) → b ≡ true → (rest : Option B) → cond b (Some y) rest ≡ Some y
+    chosen true e rest = refl
+    chosen false e rest = absurd (false≢true e)
+
+    passed : (b : Bool) (w : B) → b ≡ false → (rest : Option B) → cond b (Some w) rest ≡ rest
+    passed true w e rest = absurd (false≢true (sym e))
+    passed false w e rest = refl
+
+    later : (o : Option B) → f z ≡ o → p z ≡ false → find q (filter_map f xs) ≡ Some y → find q (cons_option o (filter_map f xs)) ≡ Some y
+    later None is t rest = rest
+    later (Some w) is t rest = passed (q w) w (agree z w is ∙ t) (find q (filter_map f xs)) ∙ rest
+
+    go : (b : Bool) → p z ≡ b → cond b (Some z) (find p xs) ≡ Some x → (find p xs ≡ Some x → f x ≡ Some y → find q (filter_map f xs) ≡ Some y) → find q (cons_option (f z) (filter_map f xs)) ≡ Some y
+    go true t e rest =
+        let same : f z ≡ Some y = ap f (same_Some z x e) ∙ made in
+        ap (λ (o : Option B). find q (cons_option o (filter_map f xs))) same ∙ chosen (q y) (agree z y same ∙ t) (find q (filter_map f xs))
+    go false t e rest = later (f z) refl t (rest e made)
+
+-- Where the front has none, the first that passes comes behind it.
+pub found_behind : {A : Type 0} (p : A → Bool) (xs ys : List A) → find p xs ≡ None → length xs ≤ position_or_len p (xs ++ ys)
+found_behind p [] ys e = omega arith
+found_behind {A} p (x ∷ xs) ys e = go (p x) e (found_behind p xs ys)
+  where
+    go : (b : Bool) → cond b (Some x) (find p xs) ≡ None → (find p xs ≡ None → length xs ≤ position_or_len p (xs ++ ys)) → suc (length xs) ≤ cond (not b) (1 + position_or_len p (xs ++ ys)) 0
+    go true e rest = absurd (none-some x (sym e))
+    go false e rest = let low = rest e in omega arith

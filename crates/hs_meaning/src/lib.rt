@@ -1,0 +1,24 @@
+//! What a text of rules and units means.
+//!
+//! [`check`] gives the rules and the units of a text without faults, by numbers, or the text's first
+//! fault. A rule's nodes and statements are gone through once for each of its parts, which are few;
+//! names within a rule are looked for among its nodes, which are few too.
+#![tactic(auto)]
+
+mod block;
+mod checking;
+mod elements;
+mod examples;
+mod laws;
+mod numbered;
+mod open_nodes;
+mod parameters;
+mod rules;
+mod saying;
+mod sayings;
+mod slots;
+mod units;
+
+pub use checking::check;
+pub use examples::{rule_tried, slots_tried, units_tried};
+pub use laws::rules_are_formed;
