@@ -143,8 +143,7 @@ const TWENTY: &str = "{\"meta\": {\"classes\": [{\"name\": \"N\", \"references\"
   {\"name\": \"p6\", \"class\": \"N\", \"refs\": {\"to\": [\"o0\"]}}, {\"name\": \"p7\", \"class\": \"N\", \"refs\": {\"to\": [\"o0\"]}},
   {\"name\": \"p8\", \"class\": \"N\", \"refs\": {\"to\": [\"o0\"]}}, {\"name\": \"p9\", \"class\": \"N\", \"refs\": {\"to\": [\"o0\"], \"in\": [\"p8\", \"o5\"]}}]}";
 
-const TWENTY_PROBLEMS: &str =
-    "{\"object\":\"o0\",\"problem\":\"lower\",\"reference\":\"N.to\"}
+const TWENTY_PROBLEMS: &str = "{\"object\":\"o0\",\"problem\":\"lower\",\"reference\":\"N.to\"}
 {\"object\":\"o1\",\"problem\":\"upper\",\"reference\":\"N.to\"}
 {\"object\":\"o2\",\"problem\":\"cycle\"}
 {\"object\":\"o3\",\"problem\":\"lower\",\"reference\":\"N.to\"}
@@ -174,9 +173,21 @@ const REFUSED: [(u8, &str, &str); 18] = [
     (5, "henshin: bad-json", "{\"meta\": {\"classes\": []}"),
     (6, "henshin: bad-bundle /", "[]"),
     (6, "henshin: bad-bundle /meta", "{}"),
-    (6, "henshin: bad-bundle /graphs", "{\"rule\": 1, \"graphs\": [], \"meta\": 5}"),
-    (6, "henshin: bad-bundle /rules", "{\"meta\": {}, \"rules\": 1}"),
-    (7, "henshin: bad-model /meta/class form", "{\"meta\": {\"class\": []}, \"graph\": 1}"),
+    (
+        6,
+        "henshin: bad-bundle /graphs",
+        "{\"rule\": 1, \"graphs\": [], \"meta\": 5}",
+    ),
+    (
+        6,
+        "henshin: bad-bundle /rules",
+        "{\"meta\": {}, \"rules\": 1}",
+    ),
+    (
+        7,
+        "henshin: bad-model /meta/class form",
+        "{\"meta\": {\"class\": []}, \"graph\": 1}",
+    ),
     (
         7,
         "henshin: bad-model /meta/classes/0 supercycle",
@@ -187,8 +198,16 @@ const REFUSED: [(u8, &str, &str); 18] = [
         "henshin: bad-graph /graph/0 abstract",
         "{\"meta\": {\"classes\": [{\"name\": \"A\", \"abstract\": true}, {\"name\": \"B\", \"supers\": [\"A\"]}]}, \"graph\": [{\"name\": \"a\", \"class\": \"A\"}], \"rules\": \"(\"}",
     ),
-    (9, "henshin: bad-text 1:9 order", "{\"meta\": {\"classes\": []}, \"rules\": \"rule r( {\"}"),
-    (9, "henshin: bad-text 2:1 end", "{\"meta\": {\"classes\": []}, \"rules\": \"rule\\n\"}"),
+    (
+        9,
+        "henshin: bad-text 1:9 order",
+        "{\"meta\": {\"classes\": []}, \"rules\": \"rule r( {\"}",
+    ),
+    (
+        9,
+        "henshin: bad-text 2:1 end",
+        "{\"meta\": {\"classes\": []}, \"rules\": \"rule\\n\"}",
+    ),
     (
         10,
         "henshin: bad-rule 1:40 writeondeleted",
@@ -199,8 +218,16 @@ const REFUSED: [(u8, &str, &str); 18] = [
         "henshin: bad-unit 1:6 unitcycle",
         "{\"meta\": {\"classes\": []}, \"rules\": \"unit a() sequential { b(); } unit b() sequential { a(); }\", \"sessions\": 5}",
     ),
-    (21, "henshin: not-built", "{\"meta\": {\"classes\": []}, \"journal\": {}}"),
-    (21, "henshin: not-built", "{\"meta\": {\"classes\": []}, \"sessions\": [[]]}"),
+    (
+        21,
+        "henshin: not-built",
+        "{\"meta\": {\"classes\": []}, \"journal\": {}}",
+    ),
+    (
+        21,
+        "henshin: not-built",
+        "{\"meta\": {\"classes\": []}, \"sessions\": [[]]}",
+    ),
     (
         21,
         "henshin: not-built",

@@ -17,7 +17,13 @@ impl Refusal {
         match self {
             Refusal::NoBundle(fault) => fault.line(alloc),
             Refusal::BadText { line, column, kind } => {
-                placed(alloc, "henshin: bad-text ", *line, *column, text_word(*kind))
+                placed(
+                    alloc,
+                    "henshin: bad-text ",
+                    *line,
+                    *column,
+                    text_word(*kind),
+                )
             }
             Refusal::BadRule(fault) => rule_line(alloc, fault),
             Refusal::NotBuilt => Text::from_str(alloc, "henshin: not-built"),
@@ -29,7 +35,13 @@ fn rule_line(alloc: Global, fault: &RuleFault) -> Result<Text, AllocError>
     ensures { IfOk result (λ line. line ≡ spec.rule_front fault.now.in_unit ++ spec.place_text fault.now.line fault.now.column (spec.rule_word fault.now.kind)) }
 {
     let front = rule_front(fault.in_unit);
-    placed(alloc, front, fault.line, fault.column, rule_word(fault.kind))
+    placed(
+        alloc,
+        front,
+        fault.line,
+        fault.column,
+        rule_word(fault.kind),
+    )
 }
 
 fn rule_front(in_unit: bool) -> &'static str
