@@ -5,7 +5,7 @@ ghost use Rattle.henshin.specs.Ending.{IsRead, IsRun, IsWritten};
 ghost use Rattle.henshin.specs.Words.{AreWords};
 
 use crate::reading::{ReadError, read_all};
-use crate::serving::{Answer, answer};
+use crate::serving::{Answer, serve};
 use crate::status::Status;
 use crate::words::{Command, command_of};
 use crate::writing::write_all;
@@ -65,7 +65,7 @@ pub fn once<S: Source, K: Sink>(
         Err(ReadError::TooLong) => return ended(Status::TooLong),
         Err(ReadError::NoMemory) => return ended(Status::NoMemory),
     };
-    let Answer { report, text } = match answer(alloc, command, bytes.as_slice()) {
+    let Answer { report, text } = match serve(alloc, command, bytes.as_slice()) {
         Ok(answer) => answer,
         Err(Failure::Fault(refusal)) => return ended(Status::Refused(refusal)),
         Err(Failure::NoMemory) => return ended(Status::NoMemory),

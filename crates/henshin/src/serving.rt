@@ -42,7 +42,7 @@ struct Ran {
 }
 
 /// What the command gives for the bundle that the bytes are, or why they are refused.
-pub fn answer(alloc: Global, command: Command, bytes: &[u8]) -> Result<Answer, Failure<Refusal>>
+pub fn serve(alloc: Global, command: Command, bytes: &[u8]) -> Result<Answer, Failure<Refusal>>
     ensures gives { IfOk result (λ answer. Gives command bytes.now answer.report answer.text) }
     ensures refused { Tells bytes.now result }
 {
