@@ -1,6 +1,6 @@
 //! From a bundle's bytes to what a command gives for them.
 
-ghost use Rattle.std.specs.Prelude.{ℕ, ◌≡◌, ◌×◌, [], ◌∷◌, IfOk, List, Some};
+ghost use Rattle.std.specs.Prelude.{ℕ, ◌≡◌, [], ◌∷◌, IfOk, List, Some};
 ghost use Rattle.std.specs.Arc.{arc_value};
 ghost use Rattle.serde_json.specs.Data.{Data};
 ghost use Rattle.hs_types.specs.Metamodel.{IsMeta};

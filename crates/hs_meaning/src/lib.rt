@@ -17,6 +17,8 @@ mod rules;
 mod saying;
 mod sayings;
 mod slots;
+#[cfg(test)]
+mod tests;
 mod units;
 
 pub use checking::check;
