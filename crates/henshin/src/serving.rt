@@ -81,9 +81,10 @@ fn applied(alloc: Global, input: Input) -> Result<Answer, AllocError>
     requires asked { (whole : Data) × (work_of (arc_value input.graph.meta) input.syntax whole ≡ Some input.work) }
     ensures { (bytes : List ℕ) (held : Contents) → IsInput bytes held input → IfOk result (λ answer. Gives Command.Apply bytes answer.report answer.text) }
 {
-    let Ran { rules, report } = match input.work {
-        Work::Nothing => ran_nothing(alloc, input.graph)?,
-        Work::Once(rule) => ran_once(alloc, input.graph, rule)?,
+    let Input { graph, work, .. } = input;
+    let Ran { rules, report } = match work {
+        Work::Nothing => ran_nothing(alloc, graph)?,
+        Work::Once(rule) => ran_once(alloc, graph, rule)?,
     };
     let text = report_text(alloc, &rules, &report)?;
     Ok(Answer {
