@@ -1,5 +1,5 @@
 -- What follows of an input, for its run.
-use Rattle.std.proofs.Common.{ℕ, ◌≤◌, ◌≡◌, ◌∙◌, List, length, Option, Some, None, refl, ap, sym, subst, arith}
+use Rattle.std.proofs.Common.{ℕ, ◌≡◌, ◌∙◌, List, Option, Some, None, refl, ap, sym, subst, arith}
 use Rattle.std.specs.Prelude.{IfSome}
 use Rattle.serde_json.specs.Data.{Data}
 use Rattle.hs_text.specs.declared.syntax.Syntax.{Syntax}
@@ -72,14 +72,20 @@ given_rules bytes held input text is told = (held, input.syntax, input.work, ref
 -- What `apply` gives for it.
 pub given_report : (bytes : List ℕ) (held : Contents) (input : Input) (work : Work) (rules : RuleSet) (report : Report) (text : List ℕ) → IsInput bytes held input → input.work ≡ work →
     IsSetOf (arc_value input.graph.meta) work rules → IsSerialReport rules input.graph.graph (sessions_of work) report → text ≡ report_text rules report → Gives Apply bytes (Some report) text
-given_report bytes held input work rules report text is same set serial told = (rules, report, refl, record {
-  held = held;
-  syntax = input.syntax;
-  work = input.work;
-  is_built = is.is_built;
-  is_set = subst (λ (w : Work). IsSetOf held.meta w rules) (sym same) (subst (λ (m : Metamodel). IsSetOf m work rules) is.same_meta set);
-  is_serial = subst (λ (w : Work). IsSerialReport rules held.graph (sessions_of w) report) (sym same) (subst (λ (g : Graph). IsSerialReport rules g (sessions_of work) report) is.same_graph serial);
-}, told)
+given_report bytes held input work rules report text is same set serial told = (
+  rules,
+  report,
+  refl,
+  record {
+    held = held;
+    syntax = input.syntax;
+    work = input.work;
+    is_built = is.is_built;
+    is_set = subst (λ (w : Work). IsSetOf held.meta w rules) (sym same) (subst (λ (m : Metamodel). IsSetOf m work rules) is.same_meta set);
+    is_serial = subst (λ (w : Work). IsSerialReport rules held.graph (sessions_of w) report) (sym same) (subst (λ (g : Graph). IsSerialReport rules g (sessions_of work) report) is.same_graph serial);
+  },
+  told,
+)
 
 pub same_refusal : (a b : Refusal) (status : Status) → status ≡ Refused a → status ≡ Refused b → a ≡ b
 same_refusal a b status e f = cc
