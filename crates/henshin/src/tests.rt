@@ -5,6 +5,7 @@ use crate::status::fault_line;
 use hs_base::{SinkMem, SourceMem};
 use hs_expr::{List, Text};
 use std::alloc::{AllocError, Global};
+use std::process::Abort;
 use std::test::Fail;
 
 /// The metamodel of clients with their accounts.
@@ -510,19 +511,20 @@ fn tells_a_sink_without_room(rt: HostRuntime) -> Result<(), Fail> {
     Ok(())
 }
 
+/// Checks that these words are refused, and nothing is written.
+fn refuses_words(rt: &impl Abort, alloc: Global, words: &[&str]) -> Result<(), AllocError> {
+    let ended = ran(alloc, words, bundle(alloc, META, OPEN)?, plain())?;
+    assert!(rt; ended.is(2, "henshin: usage", ""));
+    Ok(())
+}
+
 #[test]
 fn takes_no_other_words(rt: HostRuntime) -> Result<(), Fail> {
-    let alloc = rt.alloc();
-    for words in [
-        [].as_slice(),
-        ["run"].as_slice(),
-        ["apply", "apply"].as_slice(),
-        ["check", "validate"].as_slice(),
-        ["Check"].as_slice(),
-        [""].as_slice(),
-    ] {
-        let ended = ran(alloc, words, bundle(alloc, META, OPEN)?, plain())?;
-        assert!(rt; ended.is(2, "henshin: usage", ""));
-    }
+    refuses_words(&rt, rt.alloc(), &[])?;
+    refuses_words(&rt, rt.alloc(), &["run"])?;
+    refuses_words(&rt, rt.alloc(), &["apply", "apply"])?;
+    refuses_words(&rt, rt.alloc(), &["check", "validate"])?;
+    refuses_words(&rt, rt.alloc(), &["Check"])?;
+    refuses_words(&rt, rt.alloc(), &[""])?;
     Ok(())
 }

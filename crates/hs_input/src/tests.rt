@@ -2,13 +2,17 @@ use crate::{Work, read_input};
 use hs_expr::Failure;
 use std::alloc::{AllocError, Global};
 
+fn asked(alloc: Global, work: &Work) -> Result<String, AllocError> {
+    match work {
+        Work::Nothing => String::from_str(alloc, "nothing"),
+        Work::Once(rule) => String::from_str(alloc, rule.name.as_str()),
+    }
+}
+
 /// What is asked for in the bundle, or the line that tells why it is refused.
 fn told(alloc: Global, text: &str) -> Result<String, AllocError> {
     match read_input(alloc, text.as_bytes()) {
-        Ok(input) => match input.work {
-            Work::Nothing => String::from_str(alloc, "nothing"),
-            Work::Once(rule) => Ok(rule.name.into_string()),
-        },
+        Ok(input) => asked(alloc, &input.work),
         Err(Failure::Fault(refusal)) => Ok(refusal.line(alloc)?.into_string()),
         Err(Failure::NoMemory) => Err(AllocError),
     }
