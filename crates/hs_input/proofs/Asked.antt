@@ -1,5 +1,5 @@
 -- What is asked for is the rule that the text means.
-use Rattle.std.proofs.Common.{◌≡◌, List, ℕ, Bool, true, false, Option, Some, None, ap}
+use Rattle.std.proofs.Common.{◌≡◌, List, ℕ, Bool, true, false, Option, Some, None}
 use Rattle.std.specs.Prelude.{not, codes, if◌then◌else◌}
 use Rattle.std.specs.Option.{option_and_then}
 use Rattle.serde_json.specs.Data.{Data}
@@ -8,7 +8,6 @@ use Rattle.hs_types.specs.declared.meta.Metamodel.{Metamodel}
 use Rattle.hs_types.specs.declared.rule.Rule.{Rule}
 use Rattle.hs_types.specs.Lists.{same_text}
 use Rattle.hs_check.specs.Meaning.{rule_of}
-use Rattle.hs_input.specs.declared.work.Work.{Work}
 use Rattle.hs_input.specs.declared.work.Work.TheVariants.{Nothing, Once}
 use Rattle.hs_input.specs.Work.{call_in, has_none, once_named, sessions_at, work_of}
 

@@ -1,5 +1,5 @@
 -- A refusal that is handed on keeps its cause.
-use Rattle.std.proofs.Common.{ℕ, ◌≡◌, List, Result, Ok, Err, IsErrAnd, sym, subst}
+use Rattle.std.proofs.Common.{ℕ, ◌≡◌, List, Result, Ok, Err, IsErrAnd, subst}
 use Rattle.hs_expr.specs.declared.failure.Failure.{Failure}
 use Rattle.hs_expr.specs.declared.failure.Failure.TheVariants as failed
 use Rattle.hs_input.specs.declared.refusal.Refusal.{Refusal}

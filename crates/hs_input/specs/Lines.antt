@@ -1,10 +1,9 @@
 -- Refusals as they are printed.
-use Rattle.std.specs.Prelude.{ℕ, List, ◌∷◌, ◌++◌, codes, Bool, true, false}
+use Rattle.std.specs.Prelude.{ℕ, List, ◌++◌, codes, Bool, true, false}
 use Rattle.std.specs.Fmt.{decimal}
 use Rattle.hs_tokens.specs.declared.fault.FaultKind.{FaultKind}
 use Rattle.hs_tokens.specs.declared.fault.FaultKind.TheVariants as text
 use Rattle.hs_bundle.specs.Lines.{line_of as bundle_line}
-use Rattle.hs_rules.specs.declared.fault.RuleFault.{RuleFault}
 use Rattle.hs_rules.specs.declared.fault.RuleFaultKind.{RuleFaultKind}
 use Rattle.hs_rules.specs.declared.fault.RuleFaultKind.TheVariants as rule
 use Rattle.hs_input.specs.declared.refusal.Refusal.{Refusal}
