@@ -25,6 +25,9 @@ use hs_types::{Args, ListGraph, Meta, Request, Rule, RuleSet};
 use std::alloc::{AllocError, Global};
 use std::sync::Arc;
 
+/// The fuel of a request that names none.
+const DEFAULT_FUEL: u32 = 1_000;
+
 /// What a command gives for a bundle.
 #[derive(Debug, Drop)]
 pub struct Answer {
@@ -132,9 +135,6 @@ fn plain_call(alloc: Global, rule: &Rule) -> Result<Request, AllocError>
         group: false,
     })
 }
-
-/// The fuel of a request that names none.
-const DEFAULT_FUEL: u32 = 1_000;
 
 /// The set of this one rule over a metamodel.
 fn rule_set(alloc: Global, meta: &Arc<Meta>, rule: Rule) -> Result<RuleSet, AllocError>

@@ -3,9 +3,11 @@
 //!
 //! [`read_input`] gives all of it, or the first [`Refusal`]: the bundle's own fault, the first fault of
 //! its text, the first fault of its rules and units, or that it asks for what isn't built.
-//! `specs/Refusing.antt` says each refusal's cause, and [`Refusal::line`] is the line that tells it.
+//! `specs/Refusing.antt` says each refusal's cause, [`refused_once`] that there is one at most, and
+//! [`Refusal::line`] is the line that tells it.
 #![tactic(auto)]
 
+mod laws;
 mod lines;
 mod reading;
 mod refusal;
@@ -13,6 +15,7 @@ mod refusal;
 mod tests;
 mod work;
 
+pub use laws::{calls_tried, refused_once};
 pub use reading::{Input, read_input};
 pub use refusal::Refusal;
 pub use work::Work;

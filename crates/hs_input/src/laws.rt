@@ -1,0 +1,32 @@
+//! What the definitions of what the program is given say together.
+
+ghost use Rattle.std.specs.Prelude.{◌≡◌, ℕ, List, Some, None, codes, false, true};
+ghost use Rattle.serde_json.specs.Data.{array, boolean, item, member, no_items, no_members, object, string};
+ghost use Rattle.hs_text.specs.declared.syntax.Syntax.{Syntax};
+ghost use Rattle.hs_bundle.specs.Reading.{Contents};
+ghost use Rattle.hs_input.specs.declared.refusal.Refusal.{Refusal};
+ghost use Rattle.hs_input.specs.declared.work.Work.{Work};
+ghost use Rattle.hs_input.specs.Input.{IsBuilt};
+ghost use Rattle.hs_input.specs.Refusing.{Refuses};
+ghost use Rattle.hs_input.specs.Work.{call_in, has_none};
+
+/// Bytes are refused for one reason at most, and for none where they hold what is built.
+pub fn refused_once()
+    ensures one { (bytes : List ℕ) (a b : Refusal) → Refuses bytes a → Refuses bytes b → a ≡ b }
+    ensures none { (bytes : List ℕ) (held : Contents) (syntax : Syntax) (work : Work) (refusal : Refusal)
+        → IsBuilt bytes held syntax work → Refuses bytes refusal → ⊥ }
+{}
+
+/// What sessions call, `[[{"call":"r"}]]` and four that call nothing that is built; and lists that are
+/// left out, empty, not empty, and none.
+pub fn calls_tried()
+    ensures called { call_in (array (item (array (item (object (member (codes "call") (string (codes "r")) no_members)) no_items)) no_items)) ≡ Some (codes "r") }
+    ensures no_session { call_in (array no_items) ≡ None }
+    ensures no_request { call_in (array (item (array no_items) no_items)) ≡ None }
+    ensures no_text { call_in (array (item (array (item (object (member (codes "call") (boolean true) no_members)) no_items)) no_items)) ≡ None }
+    ensures further_key { call_in (array (item (array (item (object (member (codes "call") (string (codes "r")) (member (codes "group") (boolean false) no_members))) no_items)) no_items)) ≡ None }
+    ensures left_out { has_none (codes "journal") (object no_members) ≡ true }
+    ensures empty { has_none (codes "journal") (object (member (codes "journal") (array no_items) no_members)) ≡ true }
+    ensures not_empty { has_none (codes "journal") (object (member (codes "journal") (array (item (boolean true) no_items)) no_members)) ≡ false }
+    ensures no_list { has_none (codes "journal") (object (member (codes "journal") (object no_members) no_members)) ≡ false }
+{}
