@@ -1,4 +1,3 @@
-pub mod Stacks
 pub mod Paths
 pub mod Orders
 pub mod Steps

@@ -7,7 +7,6 @@
 mod cycles;
 mod marking;
 mod searching;
-mod stack;
 #[cfg(test)]
 mod tests;
 mod turning;

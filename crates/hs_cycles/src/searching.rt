@@ -6,8 +6,7 @@ ghost use Rattle.hs_types.specs.Lists.{has};
 ghost use Rattle.hs_cycles.specs.Reaching.{IsOrderly, IsWhole, leads};
 ghost use Rattle.hs_cycles.specs.Underway as spec;
 
-use crate::stack::Stack;
-use hs_expr::List;
+use hs_expr::{List, Stack};
 use std::alloc::{AllocError, Global};
 
 /// What is known while a graph is searched.

@@ -2,4 +2,3 @@ pub mod Depths
 pub mod Kept
 pub mod Piles
 pub mod Resolved
-pub mod Stacks

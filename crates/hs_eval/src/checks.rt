@@ -9,9 +9,8 @@ use crate::fault::{ExprFault, Wrong, wrong_at};
 use crate::leaves::leaf;
 use crate::operand::Operand;
 use crate::operators::{junction, negation, opposition};
-use crate::stack::Stack;
 use crate::{Checked, Scope};
-use hs_expr::{Failure, NameExpr, Piece, Span, needed};
+use hs_expr::{Failure, NameExpr, Piece, Span, Stack, needed};
 use std::alloc::Global;
 
 /// Takes the top of the stack. An operator that finds nothing there misses an operand of its kind.

@@ -22,7 +22,6 @@ mod operators;
 mod reading;
 mod scope;
 mod shallow;
-mod stack;
 mod value_ref;
 
 pub use checked::Checked;

@@ -1,4 +1,3 @@
-pub mod Stacks
 pub mod Escapes
 pub mod Spelt
 pub mod Numbering

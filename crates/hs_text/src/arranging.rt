@@ -8,8 +8,7 @@ ghost use Rattle.hs_text.specs.Canonical.{piece_text, grown_text, expr_text};
 ghost use Rattle.hs_text.specs.Arranging.{next_expr, below_expr, before_expr, opened, closed, tasks_after, texts_after};
 
 use crate::spelling::{quoted, sign_word, truth_word};
-use crate::stack::Stack;
-use hs_expr::{Name, NameExpr, Piece, Text};
+use hs_expr::{Name, NameExpr, Piece, Stack, Text};
 use std::alloc::{AllocError, Global};
 
 /// What is still to be written, before what is written already.

@@ -4,10 +4,9 @@ ghost use Rattle.std.specs.Prelude.{◌≡◌, ◌∷◌, [], IfOk, OnOk};
 ghost use Rattle.hs_text.specs.declared.grammar.Action.TheVariants as action;
 
 use crate::grammar::Action;
-use crate::stack::Stack;
 use crate::syntax::{Atom, Bind, Body, Call, Definition, Element, Item, Param, Rule, Simple, Unit};
 use crate::words;
-use hs_expr::{List, NameExpr, Piece};
+use hs_expr::{List, NameExpr, Piece, Stack};
 use hs_tokens::Token;
 use std::alloc::{AllocError, Global};
 use std::mem;

@@ -5,7 +5,7 @@ ghost use Rattle.hs_text.specs.declared.grammar.Production.TheVariants as produc
 ghost use Rattle.hs_text.specs.Machine.{right};
 
 use crate::grammar::{Action, Part, Production, Symbol, Term};
-use crate::stack::Stack;
+use hs_expr::Stack;
 use hs_tokens::Kind;
 use std::alloc::AllocError;
 

@@ -29,7 +29,6 @@ mod parser;
 mod print_tests;
 mod printing;
 mod spelling;
-mod stack;
 mod syntax;
 mod table;
 #[cfg(test)]

@@ -13,6 +13,8 @@ pub mod Plan
 pub mod Step
 pub mod Journal
 pub mod RuleForm
+pub mod Units
+pub mod UnitForm
 pub mod Spares
 pub mod Elements
 pub mod Outs

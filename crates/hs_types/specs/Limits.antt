@@ -8,6 +8,8 @@ use Rattle.hs_types.specs.declared.rule.PatternEdge.{PatternEdge}
 use Rattle.hs_types.specs.declared.rule.PatternNode.{PatternNode}
 use Rattle.hs_types.specs.declared.rule.Rule.{Rule}
 use Rattle.hs_types.specs.declared.rule.SetItem.{SetItem}
+use Rattle.hs_types.specs.declared.unit.Unit.{Unit as RuleUnit}
+use Rattle.hs_types.specs.Units.{calls_of}
 
 -- At most 256 classes, each with at most 64 features.
 pub record IsSmallMeta (m : Metamodel) : Type 0 where
@@ -38,3 +40,8 @@ pub record IsSmallRule (rule : Rule) : Type 0 where
   pub each_need : All (λ part. IsSmallShape part.nodes part.edges) rule.needs
   pub each_multi : All (λ multi. IsSmallShape multi.shape.nodes multi.shape.edges × AreFlat multi.wheres multi.sets) rule.multis
   pub flat : AreFlat rule.wheres rule.sets
+
+-- At most 16 parameters and 16 calls.
+pub record IsSmallUnit (unit : RuleUnit) : Type 0 where
+  pub params : length unit.params ≤ 16
+  pub calls : length (calls_of unit.body) ≤ 16

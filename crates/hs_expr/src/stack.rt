@@ -1,6 +1,6 @@
-ghost use Rattle.std.specs.Prelude.{◌≡◌, ◌∷◌, [], OnOk, OnErr, MatchOption, reverse};
+ghost use Rattle.std.specs.Prelude.{◌≡◌, ◌∷◌, [], List, OnOk, OnErr, MatchOption, reverse};
 
-use hs_expr::List;
+use crate::List;
 use std::alloc::{AllocError, Global};
 use std::marker::Model;
 use std::mem;
@@ -31,7 +31,8 @@ impl<T> Stack<T> {
         }
     }
 
-    #[tactic(auto, using(crate::proofs::Stacks::reversals))]
+    /// Puts an item on top. Where memory is wanting the stack is as before.
+    #[tactic(auto, using(crate::proofs::Stacks::turned))]
     pub fn push(&mut self, item: T) -> Result<(), AllocError>
     where
         T: Drop,
@@ -42,19 +43,38 @@ impl<T> Stack<T> {
         Ok(())
     }
 
-    #[tactic(auto, using(crate::proofs::Stacks::reversals))]
+    /// Takes the item on top.
+    #[tactic(auto, using(crate::proofs::Stacks::turned))]
     pub fn pop(&mut self) -> Option<T>
         ensures { MatchOption result ((self.old ≡ []) × (self.new ≡ [])) (λ item. self.old ≡ item ∷ self.new) }
     {
         self.inner.pop()
     }
 
-    /// Takes the items, the bottom first.
-    #[tactic(auto, using(crate::proofs::Stacks::reversals))]
+    /// The item on top.
+    pub fn top(&self) -> Option<T>
+    where
+        T: Copy,
+        ensures { MatchOption result (self.now ≡ []) (λ item. (rest : List T) × (self.now ≡ item ∷ rest)) }
+    {
+        self.inner.as_slice().last().copied()
+    }
+
+    /// Takes all items, the bottom first.
+    #[tactic(auto, using(crate::proofs::Stacks::turned))]
     pub fn take(&mut self, alloc: Global) -> List<T>
         ensures items { result ≡ reverse self.old }
         ensures emptied { self.new ≡ [] }
     {
         List::from_vec(mem::replace(&mut self.inner, Vec::new(alloc)))
+    }
+
+    /// The items from the top on, without taking memory.
+    pub fn into_vec(self) -> Vec<T>
+        ensures { result.items ≡ self }
+    {
+        let Stack { mut inner } = self;
+        inner.reverse();
+        inner
     }
 }
