@@ -1,57 +1,173 @@
 -- What follows of an input, for its run.
-use Rattle.std.proofs.Common.{ℕ, ◌≡◌, ◌∙◌, List, Option, Some, None, refl, ap, sym, subst, arith}
-use Rattle.std.specs.Prelude.{IfSome}
+use Rattle.std.proofs.Common.{ℕ, ◌≡◌, ◌∙◌, inl, inr, List, [], ◌∷◌, Bool, true, false, length, Option, Some, None, refl, ap, sym, subst, arith}
+use Rattle.std.specs.Prelude.{◌&&◌, IfSome, IsSomeAnd, codes, not, slice_get, if◌then◌else◌}
+use Rattle.std.specs.Arc.{arc_value}
+use Rattle.std.specs.List.{All, list_all}
+use Rattle.std.specs.Option.{option_and_then, option_map}
 use Rattle.serde_json.specs.Data.{Data}
-use Rattle.hs_text.specs.declared.syntax.Syntax.{Syntax}
+use Rattle.hs_text.specs.Canonical.{canonical_text}
 use Rattle.hs_types.specs.declared.graph.Graph.{Graph}
 use Rattle.hs_types.specs.declared.meta.Metamodel.{Metamodel}
+use Rattle.hs_types.specs.declared.request.Request.{Request}
 use Rattle.hs_types.specs.declared.rule.PatternEdge.{PatternEdge}
 use Rattle.hs_types.specs.declared.rule.PatternNode.{PatternNode}
 use Rattle.hs_types.specs.declared.rule.Rule.{Rule}
-use Rattle.hs_types.specs.Pattern.{is_left}
-use Rattle.hs_check.specs.Built.{IsBuilt}
-use Rattle.hs_check.proofs.Formed.{built, formed}
-use Rattle.hs_check.proofs.Meant.{meant}
-use Rattle.hs_apply.proofs.Additions.{few_left}
-use Rattle.hs_bundle.specs.Sound.{IsSound}
-use Rattle.std.specs.Arc.{arc_value}
-use Rattle.hs_text.specs.Canonical.{canonical_text}
 use Rattle.hs_types.specs.declared.unit.RuleSet.{RuleSet}
+use Rattle.hs_types.specs.declared.unit.Unit.{Unit as RuleUnit}
+use Rattle.hs_types.specs.Journal.{meta_of}
+use Rattle.hs_types.specs.Limits.{IsSmallRule}
+use Rattle.hs_types.specs.Pattern.{is_drop, is_left}
+use Rattle.hs_types.specs.RuleForm.{IsRule}
 use Rattle.hs_bundle.specs.Problems.{text_of as problems_text}
 use Rattle.hs_bundle.specs.Reading.{Contents}
+use Rattle.hs_bundle.specs.Sound.{IsSound}
 use Rattle.hs_input.specs.declared.reading.Input.{Input}
 use Rattle.hs_input.specs.declared.refusal.Refusal.{Refusal}
-use Rattle.hs_input.specs.declared.work.Work.{Work}
 use Rattle.hs_input.specs.Input.{IsInput}
+use Rattle.hs_input.specs.Refusing.{Refuses}
+use Rattle.hs_input.specs.Sessions.{has_none, is_bare, is_called, is_empty, keeps_all, once, only_adds, only_rule, plain_call, rule_called, sessions_asked}
+use Rattle.hs_apply.proofs.Additions.{few_left}
+use Rattle.hs_finding.specs.FirstMatch.{OnlyAdds}
+use Rattle.hs_meaning.proofs.Apart.{is_text}
 use Rattle.hs_session.specs.declared.report.Report.{Report}
+use Rattle.hs_session.specs.Answers.{rule_named}
+use Rattle.hs_session.specs.Runnable.{IsRunnable}
 use Rattle.hs_session.specs.SerialReport.{IsSerialReport}
 use Rattle.henshin.specs.declared.status.Status.{Status}
 use Rattle.henshin.specs.declared.status.Status.TheVariants.{Refused}
 use Rattle.henshin.specs.declared.words.Command.TheVariants.{Apply, Validate, Check}
 use Rattle.henshin.specs.ReportText.{report_text}
-use Rattle.henshin.specs.Served.{Gives, IsSetOf, sessions_of}
-use Rattle.hs_input.specs.declared.work.Work.TheVariants.{Once}
-use Rattle.hs_input.specs.Refusing.{Refuses}
-use Rattle.hs_input.specs.Work.{work_of}
-use Rattle.hs_input.proofs.Asked.{rule_asked}
-use Rattle.hs_session.specs.Runnable.{IsRunnable}
+use Rattle.henshin.specs.Served.{Gives}
 
--- The rule that is asked for can be run in a sound graph.
-pub runnable : (m : Metamodel) (g : Graph) (syntax : Syntax) (whole : Data) (rule : Rule) → IsSound m g → work_of m syntax whole ≡ Some (Once rule) → IsRunnable m g rule
-runnable m g syntax whole rule sound asked =
-    let means = meant m syntax rule (rule_asked m syntax whole rule asked) in
-    let has : IsBuilt rule = built m rule means in
+-- ---- a rule that only adds
+
+both : (a b : Bool) → (a && b) ≡ true → (a ≡ true) × (b ≡ true)
+both true b e = (refl, e)
+both false b e = absurd (cc)
+
+empty : {A : Type 0} (xs : List A) → is_empty xs ≡ true → xs ≡ []
+empty [] e = refl
+empty (x ∷ xs) e = absurd (cc)
+
+not-true : (b : Bool) → not b ≡ true → b ≡ false
+not-true true e = absurd (cc)
+not-true false e = refl
+
+all-so : {A : Type 0} (q : A → Bool) (xs : List A) → list_all (λ x. not (q x)) xs ≡ true → All (λ x. q x ≡ false) xs
+all-so q [] e = tt
+all-so q (x ∷ xs) e = let d = both (not (q x)) _ e in (not-true (q x) d.0, all-so q xs d.1)
+
+adds : (rule : Rule) → only_adds rule ≡ true → OnlyAdds rule × (rule.params ≡ [])
+adds rule e =
+    let parts = both (keeps_all rule.shape) (is_bare rule) e in
+    let kept = both (list_all (λ (node : PatternNode). not (is_drop node.mark)) rule.shape.nodes) _ parts.0 in
+    let a = both (is_empty rule.params) _ parts.1 in
+    let b = both (is_empty rule.forbids) _ a.1 in
+    let c = both (is_empty rule.needs) _ b.1 in
+    let d = both (is_empty rule.multis) _ c.1 in
+    let f = both (is_empty rule.wheres) _ d.1 in (
+      record {
+        keeps_nodes = all-so (λ (node : PatternNode). is_drop node.mark) rule.shape.nodes kept.0;
+        keeps_edges = all-so (λ (edge : PatternEdge). is_drop edge.mark) rule.shape.edges kept.1;
+        forbids = empty rule.forbids b.0;
+        needs = empty rule.needs c.0;
+        multis = empty rule.multis d.0;
+        wheres = empty rule.wheres f.0;
+        sets = empty rule.sets f.1;
+      },
+      empty rule.params a.0,
+    )
+
+runnable : (m : Metamodel) (g : Graph) (rule : Rule) → IsSound m g → IsRule m rule → IsSmallRule rule → only_adds rule ≡ true → IsRunnable m g rule
+runnable m g rule sound formed small bare =
+    let only = adds rule bare in
+    let few_nodes = small.kernel.few_nodes in
+    let few_edges = small.kernel.few_edges in
     record {
-      well_formed = formed m rule means;
-      no_params = has.no_params;
-      only_adds = record { keeps_nodes = has.no_node_dropped; keeps_edges = has.no_edge_dropped; forbids = has.no_forbids; needs = has.no_needs; multis = has.no_multis; wheres = has.no_wheres; sets = has.no_sets };
-      small = omega (arith, few_left (λ (node : PatternNode). is_left node.mark) rule.shape.nodes, few_left (λ (edge : PatternEdge). is_left edge.mark) rule.shape.edges, has.few_nodes, has.few_edges);
+      well_formed = formed;
+      no_params = only.1;
+      only_adds = only.0;
+      small = omega (arith, few_left (λ (node : PatternNode). is_left node.mark) rule.shape.nodes, few_left (λ (edge : PatternEdge). is_left edge.mark) rule.shape.edges, few_nodes, few_edges);
       room = record {
-        objects = omega (arith, sound.is_opening.next_object, sound.few_objects, has.few_nodes);
-        edges = omega (arith, sound.is_opening.next_edge, sound.few_edges, has.few_edges);
-        names = omega (arith, sound.low_names, has.few_nodes);
+        objects = omega (arith, sound.is_opening.next_object, sound.few_objects, few_nodes);
+        edges = omega (arith, sound.is_opening.next_edge, sound.few_edges, few_edges);
+        names = omega (arith, sound.low_names, few_nodes);
       };
     }
+
+-- ---- the sessions that are asked for
+
+-- The one rule is called, once.
+pub record IsOnce (rules : List Rule) (sessions : List (List Request)) : Type 0 where
+  pub rule : Rule
+  pub is_only : rules ≡ rule ∷ []
+  pub is_bare : only_adds rule ≡ true
+  pub are : sessions ≡ once rule
+
+data Asked (rules : List Rule) (sessions : List (List Request)) : Type 0 where
+  nothing : sessions ≡ [] → Asked rules sessions
+  one_call : IsOnce rules sessions → Asked rules sessions
+
+taken : (rule : Rule) (bare called : Bool) (sessions : List (List Request)) → only_adds rule ≡ bare → option_map once (if bare && called then Some rule else None) ≡ Some sessions → IsOnce (rule ∷ []) sessions
+taken rule true true sessions bare e = record { rule = rule; is_only = refl; is_bare = bare; are = cc }
+taken rule true false sessions bare e = absurd (cc)
+taken rule false called sessions bare e = absurd (cc)
+
+called : (rules : List Rule) (units : List RuleUnit) (whole : Data) (sessions : List (List Request)) → option_map once (rule_called rules units whole) ≡ Some sessions → IsOnce rules sessions
+called [] units whole sessions e = absurd (cc)
+called (rule ∷ []) [] whole sessions e = taken rule (only_adds rule) (is_called whole rule) sessions refl e
+called (rule ∷ []) (unit ∷ units) whole sessions e = absurd (cc)
+called (rule ∷ other ∷ rules) units whole sessions e = absurd (cc)
+
+chosen : (rules : List Rule) (units : List RuleUnit) (whole : Data) (sessions : List (List Request)) (a b : Bool) →
+    (if not a then None else if b then Some [] else option_map once (rule_called rules units whole)) ≡ Some sessions → Asked rules sessions
+chosen rules units whole sessions false b e = absurd (cc)
+chosen rules units whole sessions true true e = nothing (cc)
+chosen rules units whole sessions true false e = one_call (called rules units whole sessions e)
+
+asked : (rules : List Rule) (units : List RuleUnit) (whole : Data) (sessions : List (List Request)) → sessions_asked rules units whole ≡ Some sessions → Asked rules sessions
+asked rules units whole sessions e = chosen rules units whole sessions (has_none (codes "journal") whole) (has_none (codes "sessions") whole) e
+
+-- The first request of the first session.
+abbrev first : List (List Request) → Option Request
+first sessions = option_and_then (λ session. slice_get session 0) (slice_get sessions 0)
+
+pub no_request : (rules : List Rule) (units : List RuleUnit) (whole : Data) (sessions : List (List Request)) → sessions_asked rules units whole ≡ Some sessions → None ≡ first sessions → sessions ≡ []
+no_request rules units whole sessions e none = elim (asked rules units whole sessions e) [
+  | nothing is ↦ is
+  | one_call call ↦ let some : None ≡ Some (plain_call call.rule.name) = none ∙ ap first call.are in absurd (cc)
+]
+
+-- A request is the one of the one session, and calls the one rule.
+pub record IsOnly (rules : List Rule) (sessions : List (List Request)) (request : Request) : Type 0 where
+  pub rule : Rule
+  pub is_only : rules ≡ rule ∷ []
+  pub is_bare : only_adds rule ≡ true
+  pub is_plain : request ≡ plain_call rule.name
+  pub is_all : sessions ≡ (request ∷ []) ∷ []
+
+pub one_request : (rules : List Rule) (units : List RuleUnit) (whole : Data) (sessions : List (List Request)) (request : Request) → sessions_asked rules units whole ≡ Some sessions → Some request ≡ first sessions → IsOnly rules sessions request
+one_request rules units whole sessions request e some = elim (asked rules units whole sessions e) [
+  | nothing is ↦ let none : Some request ≡ None = some ∙ ap first is in absurd (cc)
+  | one_call call ↦
+      let same : Some request ≡ Some (plain_call call.rule.name) = some ∙ ap first call.are in
+      let is : request ≡ plain_call call.rule.name = cc in
+      record { rule = call.rule; is_only = call.is_only; is_bare = call.is_bare; is_plain = is; is_all = call.are ∙ ap (λ (r : Request). (r ∷ []) ∷ []) (sym is) }
+]
+
+-- It calls the first rule of the set.
+pub calls_first : (rules : RuleSet) (sessions : List (List Request)) (request : Request) → IsOnly rules.rules sessions request → rule_named rules request.call ≡ Some 0
+calls_first rules sessions request only =
+    let call : request.call ≡ only.rule.name = ap (λ (r : Request). r.call) only.is_plain in
+    rw (only.is_only, call, is_text only.rule.name only.rule.name refl) refl
+
+-- It can be run.
+pub can_run : (m : Metamodel) (g : Graph) (rules : List Rule) (sessions : List (List Request)) (request : Request) → IsOnly rules sessions request → IsSound m g → All (λ rule. IsRule m rule × IsSmallRule rule) rules → IsSomeAnd (slice_get rules 0) (IsRunnable m g)
+can_run m g rules sessions request only sound formed =
+    let each = subst (λ (rs : List Rule). All (λ rule. IsRule m rule × IsSmallRule rule) rs) only.is_only formed in
+    subst (λ (rs : List Rule). IsSomeAnd (slice_get rs 0) (IsRunnable m g)) (sym only.is_only) (runnable m g only.rule sound each.0.0 each.0.1 only.is_bare)
+
+-- ---- bytes that were read
 
 -- What is so of the bytes that were read is so of those that were left, where they are told.
 pub refused_left : (left : Option (List ℕ)) (Rest : List ℕ → Type 0) (read : List ℕ) (refusal : Refusal) → IfSome left (λ bytes. (read ≡ bytes) × Rest bytes) → Refuses read refusal → IfSome left (λ bytes. Refuses bytes refusal)
@@ -62,27 +178,28 @@ pub all_left : (left : Option (List ℕ)) (Rest : List ℕ → Type 0) (read : L
 all_left None Rest read whole = tt
 all_left (Some bytes) Rest read whole = sym whole.0
 
--- What `validate` and `check` give for an input.
+-- ---- what is given for an input
+
 pub given_problems : (bytes : List ℕ) (held : Contents) (input : Input) (text : List ℕ) → IsInput bytes held input → text ≡ problems_text (arc_value input.graph.meta) input.graph.graph → Gives Validate bytes None text
-given_problems bytes held input text is told = (held, input.syntax, input.work, refl, is.is_built, told ∙ ap (λ (m : Metamodel). problems_text m input.graph.graph) is.same_meta ∙ ap (problems_text held.meta) is.same_graph)
+given_problems bytes held input text is told = (held, input.syntax, input.sessions, refl, is.is_built, told ∙ ap (λ (m : Metamodel). problems_text m input.graph.graph) is.same_meta ∙ ap (problems_text held.meta) is.same_graph)
 
 pub given_rules : (bytes : List ℕ) (held : Contents) (input : Input) (text : List ℕ) → IsInput bytes held input → text ≡ canonical_text input.syntax.definitions → Gives Check bytes None text
-given_rules bytes held input text is told = (held, input.syntax, input.work, refl, is.is_built, told)
+given_rules bytes held input text is told = (held, input.syntax, input.sessions, refl, is.is_built, told)
 
--- What `apply` gives for it.
-pub given_report : (bytes : List ℕ) (held : Contents) (input : Input) (work : Work) (rules : RuleSet) (report : Report) (text : List ℕ) → IsInput bytes held input → input.work ≡ work →
-    IsSetOf (arc_value input.graph.meta) work rules → IsSerialReport rules input.graph.graph (sessions_of work) report → text ≡ report_text rules report → Gives Apply bytes (Some report) text
-given_report bytes held input work rules report text is same set serial told = (
-  rules,
+pub given_report : (bytes : List ℕ) (held : Contents) (input : Input) (report : Report) (text : List ℕ) → IsInput bytes held input →
+    IsSerialReport input.rules input.graph.graph input.sessions report → text ≡ report_text input.rules report → Gives Apply bytes (Some report) text
+given_report bytes held input report text is serial told = (
+  input.rules,
   report,
   refl,
   record {
     held = held;
     syntax = input.syntax;
-    work = input.work;
+    sessions = input.sessions;
     is_built = is.is_built;
-    is_set = subst (λ (w : Work). IsSetOf held.meta w rules) (sym same) (subst (λ (m : Metamodel). IsSetOf m work rules) is.same_meta set);
-    is_serial = subst (λ (w : Work). IsSerialReport rules held.graph (sessions_of w) report) (sym same) (subst (λ (g : Graph). IsSerialReport rules g (sessions_of work) report) is.same_graph serial);
+    is_meant = is.is_meant;
+    same_model = is.same_model;
+    is_serial = subst (λ (g : Graph). IsSerialReport input.rules g input.sessions report) is.same_graph serial;
   },
   told,
 )

@@ -18,14 +18,14 @@ IsWritten (status.Refused refusal) = ⊥
 IsWritten status.NoMemory = ⊥
 
 -- The source was read to its end.
-abbrev pub IsRead : Status → Type 0
-IsRead status.Done = Unit {0}
-IsRead status.WriteFault = Unit {0}
-IsRead (status.Refused refusal) = Unit {0}
-IsRead status.Usage = ⊥
-IsRead status.ReadFault = ⊥
-IsRead status.TooLong = ⊥
-IsRead status.NoMemory = ⊥
+abbrev pub IsReadToEnd : Status → Type 0
+IsReadToEnd status.Done = Unit {0}
+IsReadToEnd status.WriteFault = Unit {0}
+IsReadToEnd (status.Refused refusal) = Unit {0}
+IsReadToEnd status.Usage = ⊥
+IsReadToEnd status.ReadFault = ⊥
+IsReadToEnd status.TooLong = ⊥
+IsReadToEnd status.NoMemory = ⊥
 
 -- The sink gained this front of the text.
 abbrev pub GainsFront : List ℕ → Option (List ℕ) → Option (List ℕ) → Type 0

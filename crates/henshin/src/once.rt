@@ -1,7 +1,7 @@
 ghost use Rattle.std.specs.Prelude.{◌≡◌, ◌≢◌, ◌↔◌, ◌<◌, ◌≤◌, [], Some, None, true, length, map, string_bytes, IfSome, IsSome};
 ghost use Rattle.hs_base.specs.Faults.{one_more};
 ghost use Rattle.hs_input.specs.Refusing.{Refuses};
-ghost use Rattle.henshin.specs.Ending.{IsRead, IsRun, IsWritten};
+ghost use Rattle.henshin.specs.Ending.{IsReadToEnd, IsRun, IsWritten};
 ghost use Rattle.henshin.specs.Words.{AreWords};
 
 use crate::reading::{ReadError, read_all};
@@ -41,7 +41,7 @@ pub fn once<S: Source, K: Sink>(
     ensures read_fault { result.status ≡ Status.ReadFault → (S.failed source.new ≡ true) × (S.faults source.new ≡ one_more (S.faults source.old)) }
     ensures source_well { result.status ≢ Status.ReadFault → S.faults source.new ≡ S.faults source.old }
     ensures too_long { result.status ≡ Status.TooLong → IfSome (S.left source.old) (λ bytes. BUNDLE_BYTES < length bytes) }
-    ensures read { IsRead result.status → IfSome (S.left source.old) (λ bytes. (length bytes ≤ BUNDLE_BYTES) × (S.left source.new ≡ Some [])) }
+    ensures read { IsReadToEnd result.status → IfSome (S.left source.old) (λ bytes. (length bytes ≤ BUNDLE_BYTES) × (S.left source.new ≡ Some [])) }
 
     // The bytes: each refusal has its cause.
     ensures refused { (refusal : Refusal) → result.status ≡ Status.Refused refusal → IfSome (S.left source.old) (λ bytes. Refuses bytes refusal) }

@@ -1,5 +1,5 @@
-pub mod Asked
 pub mod Members
 pub mod Once
 pub mod Refused
 pub mod TextFaults
+pub mod Texts

@@ -7,18 +7,20 @@ use Rattle.hs_text.specs.declared.syntax.Definition.{Definition}
 use Rattle.hs_text.specs.declared.syntax.Syntax.{Syntax}
 use Rattle.hs_text.specs.Parsing.{IsSyntaxOf, IsTextFault}
 use Rattle.hs_tokens.specs.declared.fault.TextFault.TheVariants as text
-use Rattle.hs_check.proofs.Texts.{same-definitions, same-meaning}
+use Rattle.hs_types.specs.declared.request.Request.{Request}
 use Rattle.hs_bundle.specs.declared.fault.BundleFault.{BundleFault}
 use Rattle.hs_bundle.specs.Reading.{Contents, IsAnswer, contents_of}
 use Rattle.hs_rules.specs.declared.fault.RuleFault.{RuleFault}
 use Rattle.hs_rules.specs.UnitFaults.{faults_of}
+use Rattle.hs_meaning.specs.Rules.{rules_meant}
+use Rattle.hs_meaning.specs.Units.{units_meant}
 use Rattle.hs_input.specs.declared.refusal.Refusal.{Refusal}
 use Rattle.hs_input.specs.declared.refusal.Refusal.TheVariants.{NoBundle, BadText, BadRule, NotBuilt}
-use Rattle.hs_input.specs.declared.work.Work.{Work}
-use Rattle.hs_input.specs.Input.{IsBuilt, IsRead}
+use Rattle.hs_input.specs.Input.{IsBuilt, IsRead, asked}
 use Rattle.hs_input.specs.Refusing.{Refuses}
-use Rattle.hs_input.specs.Work.{work_of}
+use Rattle.hs_input.specs.Sessions.{sessions_asked}
 use Rattle.hs_input.proofs.TextFaults.{no-fault, one-fault}
+use Rattle.hs_input.proofs.Texts.{same-definitions}
 
 -- ---- what bytes come to
 
@@ -94,20 +96,20 @@ one bytes NotBuilt NotBuilt x y = refl
 
 -- ---- and none
 
-same-work : (h k : Contents) (s t : Syntax) → k ≡ h → IsSyntaxOf (chars h.rules) s → IsSyntaxOf (chars k.rules) t → work_of k.meta t k.whole ≡ work_of h.meta s h.whole
-same-work h k s t e a b =
-    ap (λ (c : Contents). work_of c.meta t c.whole) e
-    ∙ rw (same-meaning (chars h.rules) h.meta t s (subst (λ (c : Contents). IsSyntaxOf (chars c.rules) t) e b) a) refl
+same-asked : (h k : Contents) (s t : Syntax) → k ≡ h → IsSyntaxOf (chars h.rules) s → IsSyntaxOf (chars k.rules) t → asked k t ≡ asked h s
+same-asked h k s t e a b =
+    ap (λ (c : Contents). asked c t) e
+    ∙ ap (λ (ds : List Definition). sessions_asked (rules_meant h.meta ds) (units_meant h.meta ds) h.whole) (same-syntax h k s t e a b)
 
-built_or_not : (o : Option Work) (work : Work) → o ≡ None → o ≡ Some work → ⊥
-built_or_not None work a b = absurd (cc)
-built_or_not (Some x) work a b = absurd (cc)
+built-or-not : (o : Option (List (List Request))) (sessions : List (List Request)) → o ≡ None → o ≡ Some sessions → ⊥
+built-or-not None sessions a b = absurd (cc)
+built-or-not (Some x) sessions a b = absurd (cc)
 
-pub none : (bytes : List ℕ) (held : Contents) (syntax : Syntax) (work : Work) (refusal : Refusal) → IsBuilt bytes held syntax work → Refuses bytes refusal → ⊥
-none bytes held syntax work (NoBundle f) built x = no-both bytes f held x built.is_read.is_bundle
-none bytes held syntax work (BadText l c k) built x = no-text bytes x.0 held syntax l c k x.1 built.is_read.is_bundle x.2 built.is_read.is_syntax
-none bytes held syntax work (BadRule f) built x = no-silence bytes x.0 held x.1 syntax f x.2 x.3 x.4 built.is_read
-none bytes held syntax work NotBuilt built x =
-    built_or_not (work_of held.meta syntax held.whole) work
-    (sym (same-work held x.0 syntax x.1 (same-held bytes held x.0 built.is_read.is_bundle x.2.is_bundle) built.is_read.is_syntax x.2.is_syntax) ∙ x.3)
+pub none : (bytes : List ℕ) (held : Contents) (syntax : Syntax) (sessions : List (List Request)) (refusal : Refusal) → IsBuilt bytes held syntax sessions → Refuses bytes refusal → ⊥
+none bytes held syntax sessions (NoBundle f) built x = no-both bytes f held x built.is_read.is_bundle
+none bytes held syntax sessions (BadText l c k) built x = no-text bytes x.0 held syntax l c k x.1 built.is_read.is_bundle x.2 built.is_read.is_syntax
+none bytes held syntax sessions (BadRule f) built x = no-silence bytes x.0 held x.1 syntax f x.2 x.3 x.4 built.is_read
+none bytes held syntax sessions NotBuilt built x =
+    built-or-not (asked held syntax) sessions
+    (sym (same-asked held x.0 syntax x.1 (same-held bytes held x.0 built.is_read.is_bundle x.2.is_bundle) built.is_read.is_syntax x.2.is_syntax) ∙ x.3)
     built.is_asked

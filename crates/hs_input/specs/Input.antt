@@ -1,28 +1,38 @@
 -- What bytes hold that are read to their end: a bundle, and the syntax of its rules, in which nothing is wrong.
-use Rattle.std.specs.Prelude.{ℕ, ◌≡◌, List, Some, Ok}
+use Rattle.std.specs.Prelude.{ℕ, ◌≡◌, List, Option, Some, Ok}
 use Rattle.std.specs.Arc.{arc_value}
 use Rattle.std.specs.Str.{chars}
 use Rattle.hs_expr.specs.Verdict.{verdict}
 use Rattle.hs_text.specs.declared.syntax.Syntax.{Syntax}
 use Rattle.hs_text.specs.Parsing.{IsSyntaxOf}
+use Rattle.hs_types.specs.declared.request.Request.{Request}
+use Rattle.hs_types.specs.Journal.{meta_of}
 use Rattle.hs_bundle.specs.Reading.{Contents, IsAnswer}
 use Rattle.hs_rules.specs.UnitFaults.{faults_of}
+use Rattle.hs_meaning.specs.Meaning.{IsMeant}
+use Rattle.hs_meaning.specs.Rules.{rules_meant}
+use Rattle.hs_meaning.specs.Units.{units_meant}
 use Rattle.hs_input.specs.declared.reading.Input.{Input}
-use Rattle.hs_input.specs.declared.work.Work.{Work}
-use Rattle.hs_input.specs.Work.{work_of}
+use Rattle.hs_input.specs.Sessions.{sessions_asked}
 
 pub record IsRead (bytes : List ℕ) (held : Contents) (syntax : Syntax) : Type 0 where
   pub is_bundle : IsAnswer bytes (Ok held)
   pub is_syntax : IsSyntaxOf (chars held.rules) syntax
   pub is_right : verdict (faults_of held.meta syntax.definitions) ≡ Ok tt
 
--- What is asked for in it is built.
-pub record IsBuilt (bytes : List ℕ) (held : Contents) (syntax : Syntax) (work : Work) : Type 0 where
-  pub is_read : IsRead bytes held syntax
-  pub is_asked : work_of held.meta syntax held.whole ≡ Some work
+-- What is asked for of the rules and units that the syntax means.
+abbrev pub asked : Contents → Syntax → Option (List (List Request))
+asked held syntax = sessions_asked (rules_meant held.meta syntax.definitions) (units_meant held.meta syntax.definitions) held.whole
 
--- The same of an input, whose graph has its metamodel behind a shared pointer.
+-- What is asked for is built: these requests of each session.
+pub record IsBuilt (bytes : List ℕ) (held : Contents) (syntax : Syntax) (sessions : List (List Request)) : Type 0 where
+  pub is_read : IsRead bytes held syntax
+  pub is_asked : asked held syntax ≡ Some sessions
+
+-- The same of an input, which has what the syntax means, and the metamodel behind shared pointers.
 pub record IsInput (bytes : List ℕ) (held : Contents) (input : Input) : Type 0 where
-  pub is_built : IsBuilt bytes held input.syntax input.work
+  pub is_built : IsBuilt bytes held input.syntax input.sessions
+  pub is_meant : IsMeant held.meta input.syntax.definitions input.rules
+  pub same_model : meta_of input.rules ≡ held.meta
   pub same_meta : arc_value input.graph.meta ≡ held.meta
   pub same_graph : input.graph.graph ≡ held.graph

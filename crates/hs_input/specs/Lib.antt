@@ -1,4 +1,4 @@
 pub mod Input
 pub mod Lines
 pub mod Refusing
-pub mod Work
+pub mod Sessions

@@ -11,14 +11,13 @@ use Rattle.hs_bundle.specs.Reading.{Contents, IsAnswer}
 use Rattle.hs_rules.specs.UnitFaults.{faults_of}
 use Rattle.hs_input.specs.declared.refusal.Refusal.{Refusal}
 use Rattle.hs_input.specs.declared.refusal.Refusal.TheVariants.{NoBundle, BadText, BadRule, NotBuilt}
-use Rattle.hs_input.specs.Input.{IsRead}
-use Rattle.hs_input.specs.Work.{work_of}
+use Rattle.hs_input.specs.Input.{IsRead, asked}
 
 abbrev pub Refuses : List ℕ → Refusal → Type 0
 Refuses bytes (NoBundle fault) = IsAnswer bytes (Err fault)
 Refuses bytes (BadText line column kind) = (held : Contents) × IsAnswer bytes (Ok held) × IsTextFault (chars held.rules) (text.Fault line column kind)
 Refuses bytes (BadRule fault) = (held : Contents) × (syntax : Syntax) × IsAnswer bytes (Ok held) × IsSyntaxOf (chars held.rules) syntax × (verdict (faults_of held.meta syntax.definitions) ≡ Err fault)
-Refuses bytes NotBuilt = (held : Contents) × (syntax : Syntax) × IsRead bytes held syntax × (work_of held.meta syntax held.whole ≡ None)
+Refuses bytes NotBuilt = (held : Contents) × (syntax : Syntax) × IsRead bytes held syntax × (asked held syntax ≡ None)
 
 -- A refusal has its cause; want of memory is free.
 abbrev pub Tells : {X : Type 0} → List ℕ → Result X (Failure Refusal) → Type 0

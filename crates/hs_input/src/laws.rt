@@ -3,18 +3,18 @@
 ghost use Rattle.std.specs.Prelude.{◌≡◌, ℕ, List, Some, None, codes, false, true};
 ghost use Rattle.serde_json.specs.Data.{array, boolean, item, member, no_items, no_members, object, string};
 ghost use Rattle.hs_text.specs.declared.syntax.Syntax.{Syntax};
+ghost use Rattle.hs_types.specs.declared.request.Request.{Request};
 ghost use Rattle.hs_bundle.specs.Reading.{Contents};
 ghost use Rattle.hs_input.specs.declared.refusal.Refusal.{Refusal};
-ghost use Rattle.hs_input.specs.declared.work.Work.{Work};
 ghost use Rattle.hs_input.specs.Input.{IsBuilt};
 ghost use Rattle.hs_input.specs.Refusing.{Refuses};
-ghost use Rattle.hs_input.specs.Work.{call_in, has_none};
+ghost use Rattle.hs_input.specs.Sessions.{call_in, has_none};
 
 /// Bytes are refused for one reason at most, and for none where they hold what is built.
 pub fn refused_once()
     ensures one { (bytes : List ℕ) (a b : Refusal) → Refuses bytes a → Refuses bytes b → a ≡ b }
-    ensures none { (bytes : List ℕ) (held : Contents) (syntax : Syntax) (work : Work) (refusal : Refusal)
-        → IsBuilt bytes held syntax work → Refuses bytes refusal → ⊥ }
+    ensures none { (bytes : List ℕ) (held : Contents) (syntax : Syntax) (sessions : List (List Request)) (refusal : Refusal)
+        → IsBuilt bytes held syntax sessions → Refuses bytes refusal → ⊥ }
 {}
 
 /// What sessions call, `[[{"call":"r"}]]` and four that call nothing that is built; and lists that are

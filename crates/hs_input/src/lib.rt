@@ -1,5 +1,5 @@
-//! What the program is given: a bundle's bytes, read as a metamodel with a graph over it, a text of
-//! rules that is right, and what is asked of them.
+//! What the program is given: a bundle's bytes, read as a metamodel with a graph over it, the rules and
+//! units of a text that is right, and the requests of its sessions.
 //!
 //! [`read_input`] gives all of it, or the first [`Refusal`]: the bundle's own fault, the first fault of
 //! its text, the first fault of its rules and units, or that it asks for what isn't built.
@@ -11,11 +11,10 @@ mod laws;
 mod lines;
 mod reading;
 mod refusal;
+mod sessions;
 #[cfg(test)]
 mod tests;
-mod work;
 
 pub use laws::{calls_tried, refused_once};
 pub use reading::{Input, read_input};
 pub use refusal::Refusal;
-pub use work::Work;

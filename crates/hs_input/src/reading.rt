@@ -1,40 +1,51 @@
 ghost use Rattle.std.specs.Prelude.{◌≡◌, ℕ, List, IfErr, IfOk, IfSome, Ok, Some, None};
 ghost use Rattle.std.specs.Arc.{arc_value};
+ghost use Rattle.std.specs.List.{All};
 ghost use Rattle.std.specs.Str.{chars};
 ghost use Rattle.serde_json.specs.View.{view};
 ghost use Rattle.hs_expr.specs.Verdict.{verdict};
 ghost use Rattle.hs_text.specs.Parsing.{IsSyntaxOf};
+ghost use Rattle.hs_types.specs.Journal.{meta_of};
+ghost use Rattle.hs_types.specs.Limits.{IsSmallRule};
+ghost use Rattle.hs_types.specs.Metamodel.{IsMeta};
+ghost use Rattle.hs_types.specs.RuleForm.{IsRule};
 ghost use Rattle.hs_bundle.specs.Reading.{Contents, IsAnswer, contents};
 ghost use Rattle.hs_bundle.specs.Sound.{IsSound};
 ghost use Rattle.hs_rules.specs.UnitFaults.{faults_of};
+ghost use Rattle.hs_meaning.specs.Meaning.{IsMeant};
 ghost use Rattle.hs_input.specs.Input.{IsInput, IsRead};
 ghost use Rattle.hs_input.specs.Refusing.{Tells};
-ghost use Rattle.hs_input.specs.Work.{work_of as asked};
+ghost use Rattle.hs_input.specs.Sessions as asking;
 
 use crate::refusal::Refusal;
-use crate::work::{Work, work_of};
+use crate::sessions::sessions_asked;
 use hs_bundle::{Bundle, read_bundle};
-use hs_expr::Failure;
-use hs_rules::check;
+use hs_expr::{Failure, List};
+use hs_meaning::check;
 use hs_text::{Syntax, TextFault, parse};
-use hs_types::{ListGraph, Meta};
+use hs_types::{ListGraph, Meta, Request, RuleSet};
 use serde_json::Value;
 use std::alloc::Global;
+use std::sync::Arc;
 
 /// What a bundle holds in which nothing is wrong.
-#[derive(Debug, Drop)]
+#[derive(Drop)]
 pub struct Input {
     /// The graph with its metamodel.
     pub graph: ListGraph,
-    /// Its rules and units.
+    /// The rules and units as they are written.
     pub syntax: Syntax,
-    pub work: Work,
+    /// What they mean.
+    pub rules: RuleSet,
+    /// The requests of each session.
+    pub sessions: List<List<Request>>,
 }
 
 /// Reads what the bytes hold, or tells why they are refused.
 pub fn read_input(alloc: Global, bytes: &[u8]) -> Result<Input, Failure<Refusal>>
     ensures read { IfOk result (λ input. (held : Contents) × IsInput bytes.now held input) }
     ensures sound { IfOk result (λ input. IsSound (arc_value input.graph.meta) input.graph.graph) }
+    ensures formed { IfOk result (λ input. All (λ rule. IsRule (meta_of input.rules) rule × IsSmallRule rule) input.rules.rules) }
     ensures refused { Tells bytes.now result }
 {
     let Bundle {
@@ -43,12 +54,13 @@ pub fn read_input(alloc: Global, bytes: &[u8]) -> Result<Input, Failure<Refusal>
         whole,
     } = bundle_of(alloc, bytes)?;
     let syntax = syntax_of(alloc, rules.as_str())?;
-    rules_right(alloc, &graph.meta, &syntax)?;
-    let work = work_built(alloc, &graph.meta, &syntax, &whole)?;
+    let rules = rules_of(alloc, &graph.meta, &syntax)?;
+    let sessions = sessions_built(alloc, &rules, &whole)?;
     Ok(Input {
         graph,
         syntax,
-        work,
+        rules,
+        sessions,
     })
 }
 
@@ -77,30 +89,32 @@ fn syntax_of(alloc: Global, text: &str) -> Result<Syntax, Failure<Refusal>>
     }
 }
 
-/// Goes on where nothing is wrong in the rules and units.
-fn rules_right(alloc: Global, meta: &Meta, syntax: &Syntax) -> Result<(), Failure<Refusal>>
-    ensures right { IfOk result (λ done. verdict (faults_of meta.now syntax.now.definitions) ≡ Ok tt) }
-    ensures refused { (bytes : List ℕ) (held : Contents) → held.meta ≡ meta.now → IsAnswer bytes (Ok held) → IsSyntaxOf (chars held.rules) syntax.now → Tells bytes result }
+/// The rules and units that the syntax means, where nothing is wrong in them.
+fn rules_of(alloc: Global, meta: &Arc<Meta>, syntax: &Syntax) -> Result<RuleSet, Failure<Refusal>>
+    ensures right { IfOk result (λ set. verdict (faults_of (arc_value meta.now) syntax.now.definitions) ≡ Ok tt) }
+    ensures meant { IfOk result (IsMeant (arc_value meta.now) syntax.now.definitions) }
+    ensures model { IfOk result (λ set. meta_of set ≡ arc_value meta.now) }
+    ensures formed { IsMeta (arc_value meta.now) → IfOk result (λ set. All (λ rule. IsRule (arc_value meta.now) rule × IsSmallRule rule) set.rules) }
+    ensures refused { (bytes : List ℕ) (held : Contents) → held.meta ≡ arc_value meta.now → IsAnswer bytes (Ok held) → IsSyntaxOf (chars held.rules) syntax.now → Tells bytes result }
 {
     match check(alloc, meta, syntax) {
-        Ok(()) => Ok(()),
+        Ok(set) => Ok(set),
         Err(Failure::Fault(fault)) => Err(Failure::Fault(Refusal::BadRule(fault))),
         Err(Failure::NoMemory) => Err(Failure::NoMemory),
     }
 }
 
-/// What is asked for.
-fn work_built(
+/// The requests of each session, where they are built.
+fn sessions_built(
     alloc: Global,
-    meta: &Meta,
-    syntax: &Syntax,
+    rules: &RuleSet,
     whole: &Value,
-) -> Result<Work, Failure<Refusal>>
-    ensures asked { IfOk result (λ work. asked meta.now syntax.now (view whole.now) ≡ Some work) }
-    ensures refused { (bytes : List ℕ) (held : Contents) → held.meta ≡ meta.now → held.whole ≡ view whole.now → IsRead bytes held syntax.now → Tells bytes result }
+) -> Result<List<List<Request>>, Failure<Refusal>>
+    ensures asked { IfOk result (λ sessions. asking.sessions_asked rules.now.rules rules.now.units (view whole.now) ≡ Some sessions) }
+    ensures refused { (bytes : List ℕ) (held : Contents) (syntax : Syntax) → held.whole ≡ view whole.now → IsMeant held.meta syntax.definitions rules.now → IsRead bytes held syntax → Tells bytes result }
 {
-    match work_of(alloc, meta, syntax, whole)? {
-        Some(work) => Ok(work),
+    match sessions_asked(alloc, rules, whole)? {
+        Some(sessions) => Ok(sessions),
         None => Err(Failure::Fault(Refusal::NotBuilt)),
     }
 }

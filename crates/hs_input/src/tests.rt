@@ -1,21 +1,32 @@
-use crate::{Work, read_input};
-use hs_expr::Failure;
+use crate::read_input;
+use hs_expr::{Failure, List};
+use hs_types::Request;
 use std::alloc::{AllocError, Global};
 
-fn asked(alloc: Global, work: &Work) -> Result<String, AllocError> {
-    match work {
-        Work::Nothing => String::from_str(alloc, "nothing"),
-        Work::Once(rule) => String::from_str(alloc, rule.name.as_str()),
+/// What the first request calls.
+fn asked(alloc: Global, sessions: &[List<Request>]) -> Result<String, AllocError> {
+    for session in sessions {
+        for request in session.as_slice() {
+            return String::from_str(alloc, request.call.as_str());
+        }
     }
+    String::from_str(alloc, "nothing")
 }
 
 /// What is asked for in the bundle, or the line that tells why it is refused.
 fn told(alloc: Global, text: &str) -> Result<String, AllocError> {
     match read_input(alloc, text.as_bytes()) {
-        Ok(input) => asked(alloc, &input.work),
+        Ok(input) => asked(alloc, input.sessions.as_slice()),
         Err(Failure::Fault(refusal)) => Ok(refusal.line(alloc)?.into_string()),
         Err(Failure::NoMemory) => Err(AllocError),
     }
+}
+
+/// A bundle with one class, these rules, and a call of `r`.
+fn called(alloc: Global, rules: &str) -> Result<String, AllocError> {
+    format!(in alloc;
+        r#"{{"meta":{{"classes":[{{"name":"A","attributes":[{{"name":"n","type":"EInt"}}],"references":[{{"name":"next","target":"A"}}]}}]}},"rules":"{rules}","sessions":[[{{"call":"r"}}]]}}"#
+    )
 }
 
 #[test]
@@ -58,6 +69,48 @@ fn the_first_refusal_is_told(rt: HostRuntime) -> Result<(), AllocError> {
         ),
     ] {
         assert!(rt; told(rt.alloc(), text)?.as_str() == line, "{text}");
+    }
+    Ok(())
+}
+
+#[test]
+fn one_rule_that_only_adds_can_be_called(rt: HostRuntime) -> Result<(), AllocError> {
+    for (rules, answer) in [
+        ("rule r() { }", "r"),
+        (
+            "rule r() { create edge a -> b: next; preserve node a: A; create node b: A; }",
+            "r",
+        ),
+        (
+            "rule r(in a: A) { preserve node a: A; }",
+            "henshin: not-built",
+        ),
+        (
+            "rule r(out a: A) { create node a: A; }",
+            "henshin: not-built",
+        ),
+        ("rule r() { delete node a: A; }", "henshin: not-built"),
+        (
+            "rule r() { preserve node a: A; preserve node b: A; delete edge a -> b: next; }",
+            "henshin: not-built",
+        ),
+        ("rule r() { where true; }", "henshin: not-built"),
+        (
+            "rule r() { create node a: A; set a.n = 1; }",
+            "henshin: not-built",
+        ),
+        ("rule r() { forbid { } }", "henshin: not-built"),
+        ("rule r() { require { } }", "henshin: not-built"),
+        ("rule r() { multi { } }", "henshin: not-built"),
+        ("rule r() { } rule s() { }", "henshin: not-built"),
+        ("rule s() { }", "henshin: not-built"),
+        ("", "henshin: not-built"),
+    ] {
+        let bundle = called(rt.alloc(), rules)?;
+        assert!(rt;
+            told(rt.alloc(), bundle.as_str())?.as_str() == answer,
+            "{rules}"
+        );
     }
     Ok(())
 }

@@ -1,6 +1,6 @@
 use crate::check;
 use hs_expr::{Expr, List, Text, Value};
-use hs_text::parse;
+use hs_text::{parse, print};
 use hs_types::{
     Atom, Bind, Body, Call, Class, Count, DataType, Feature, FeatureKind, Meta, Metamodel, Multi,
     Param, Part, PatternEdge, PatternNode, Rule, RuleSet, SetItem, Shape, Unit,
@@ -335,6 +335,100 @@ fn first_wrong(alloc: Global, table: &str) -> Result<Option<String>, AllocError>
         }
     }
     Ok(None)
+}
+
+/// All that the text means, a line for each rule and unit.
+fn all_of(alloc: Global, text: &str) -> Result<String, AllocError> {
+    let mut all = String::new(alloc);
+    if let Some(set) = read(alloc, text)? {
+        for rule in set.rules.iter() {
+            all.push_str(rule_text(alloc, rule)?.as_str())?;
+            all.push('\n')?;
+        }
+        for unit in set.units.iter() {
+            all.push_str(unit_text(alloc, unit)?.as_str())?;
+            all.push('\n')?;
+        }
+    }
+    Ok(all)
+}
+
+/// The canonical text of a text.
+fn canonical(alloc: Global, text: &str) -> Result<String, AllocError> {
+    match parse(alloc, text) {
+        Ok(syntax) => Ok(print(alloc, &syntax)?.into_string()),
+        Err(_) => String::from_str(alloc, "no text"),
+    }
+}
+
+/// Rules and units of a bank.
+const BANK: &str = "\
+rule transfer(in from: Account, in to: Account, in amount: int) {
+  preserve node from: Account; preserve node to: Account;
+  where (amount > 0) and (from.balance >= amount);
+  set from.balance = from.balance - amount; set to.balance = to.balance + amount;
+}
+rule lone(out c: Client) { create node c: Client; }
+rule openAccount(in c: Client, out a: Account) {
+  preserve node c: Client; create node a: Account; create edge c -> a: accounts;
+}
+rule dropClient(in c: Client) { delete node c: Client; }
+rule dropAccount(in a: Account) { delete node a: Account; }
+rule unlink(in c: Client, in a: Account) {
+  preserve node c: Client; preserve node a: Account; delete edge c -> a: accounts;
+}
+rule two() { preserve node x: Account; preserve node y: Account; }
+rule add(in a: Account) { preserve node a: Account; set a.balance = a.balance + 1; }
+rule dropTwice() {
+  preserve node y: Client; delete node x: Account;
+  delete edge y -> x: accounts; delete edge y -> x: accounts;
+}
+rule touch() {
+  preserve node q: Client; preserve node p: Account;
+  preserve edge q -> p: accounts; preserve edge q -> p: accounts;
+}
+rule assign(in a: Account, in c: Client) {
+  preserve node a: Account; preserve node c: Client;
+  create edge a -> c: owner; forbid { edge a -> c: owner; }
+}
+rule unassign(in a: Account, in c: Client) {
+  preserve node a: Account; preserve node c: Client; delete edge a -> c: owner;
+}
+rule openOwned(in c: Client, out a: Account) {
+  preserve node c: Client; create node a: Account; create edge a -> c: owner;
+}
+rule reset(in a: Account) {
+  preserve node a: Account; set a.balance = 0; forbid { node d: Client; edge a -> d: owner; }
+}
+rule purge(in x: Account) {
+  delete node x: Account; multi { preserve node y: Client; delete edge y -> x: accounts; }
+}
+rule wide() {
+  preserve node n0: Client; preserve node n1: Client; preserve node n2: Client;
+  preserve node n3: Client; preserve node n4: Client; preserve node n5: Client;
+  preserve node n6: Client; delete edge n0 -> n1: knows;
+}
+rule seven() {
+  preserve node n0: Client; preserve node n1: Client; preserve node n2: Client;
+  preserve node n3: Client; preserve node n4: Client; preserve node n5: Client;
+  preserve node n6: Client;
+}
+unit nothing() sequential { }
+unit spin() loop { nothing(); }
+unit never(in a: Account) iterated 0 { add(a = a); }
+unit both(in a: Account) conditional { if add(a = a); then add(a = a); }
+unit pay(in c: Client, in from: Account, in to: Account, in amount: int, out n: Account)
+sequential { openAccount(c = c, a > n); transfer(from = from, to = to, amount = amount); }";
+
+#[test]
+fn canonical_text_means_the_same(rt: HostRuntime) -> Result<(), Fail> {
+    let printed = canonical(rt.alloc(), BANK)?;
+    let meant = all_of(rt.alloc(), BANK)?;
+    let again = all_of(rt.alloc(), printed.as_str())?;
+    assert!(rt; printed.as_str() != BANK);
+    assert!(rt; meant.lines().count() == 22);
+    assert!(rt; meant == again, "{again:?}");
+    Ok(())
 }
 
 #[test]

@@ -8,13 +8,13 @@ returns-in_err-syntax-clause-refused c =
     handed_on {Y = Unit {0}} c.args.bytes.now (Err c.in_err-syntax.field-0.0) c.from_residual-in_err-syntax.result c.in_err-syntax.field-0.0 c.from_residual-in_err-syntax.ensures.1 refl
     (c.in_err-syntax.ensures.refused c.args.bytes.now (contents c.in_ok-graph.field-0) (sym c.as_str.ensures) c.in_ok-graph.ensures.read)
 
-pub returns-in_err-rules_right-clause-refused : goal.returns-in_err-rules_right-clause-refused
-returns-in_err-rules_right-clause-refused c =
-    handed_on {Y = Unit {0}} c.args.bytes.now (Err c.in_err-rules_right.field-0.0) c.from_residual-in_err-rules_right.result c.in_err-rules_right.field-0.0 c.from_residual-in_err-rules_right.ensures.1 refl
-    (c.in_err-rules_right.ensures.refused c.args.bytes.now (contents c.in_ok-graph.field-0) (sym c.deref.ensures) c.in_ok-graph.ensures.read (rw (← c.as_str.ensures) c.in_ok-syntax.ensures.parsed))
+pub returns-in_err-rules-clause-refused : goal.returns-in_err-rules-clause-refused
+returns-in_err-rules-clause-refused c =
+    handed_on {Y = Unit {0}} c.args.bytes.now (Err c.in_err-rules.field-0.0) c.from_residual-in_err-rules.result c.in_err-rules.field-0.0 c.from_residual-in_err-rules.ensures.1 refl
+    (c.in_err-rules.ensures.refused c.args.bytes.now (contents c.in_ok-graph.field-0) refl c.in_ok-graph.ensures.read (rw (← c.as_str.ensures) c.in_ok-syntax.ensures.parsed))
 
-pub returns-in_err-work-clause-refused : goal.returns-in_err-work-clause-refused
-returns-in_err-work-clause-refused c =
-    handed_on {Y = Unit {0}} c.args.bytes.now (Err c.in_err-work.field-0.0) c.from_residual-in_err-work.result c.in_err-work.field-0.0 c.from_residual-in_err-work.ensures.1 refl
-    (c.in_err-work.ensures.refused c.args.bytes.now (contents c.in_ok-graph.field-0) (sym c.deref-2.ensures) refl
-    (record { is_bundle = c.in_ok-graph.ensures.read; is_syntax = rw (← c.as_str.ensures) c.in_ok-syntax.ensures.parsed; is_right = rw (← c.deref.ensures) c.in_ok-rules_right.ensures.right }))
+pub returns-in_err-sessions-clause-refused : goal.returns-in_err-sessions-clause-refused
+returns-in_err-sessions-clause-refused c =
+    handed_on {Y = Unit {0}} c.args.bytes.now (Err c.in_err-sessions.field-0.0) c.from_residual-in_err-sessions.result c.in_err-sessions.field-0.0 c.from_residual-in_err-sessions.ensures.1 refl
+    (c.in_err-sessions.ensures.refused c.args.bytes.now (contents c.in_ok-graph.field-0) c.in_ok-syntax.syntax refl c.in_ok-rules.ensures.meant
+    (record { is_bundle = c.in_ok-graph.ensures.read; is_syntax = rw (← c.as_str.ensures) c.in_ok-syntax.ensures.parsed; is_right = c.in_ok-rules.ensures.right }))
