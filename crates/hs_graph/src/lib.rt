@@ -39,6 +39,9 @@ use crate::fault::{fault, told};
 use crate::numbers::Named;
 pub use examples::{meanings, namings, troubles, wrongs};
 pub use fault::{GraphFault, GraphFaultKind, GraphPlace};
+pub use index::{
+    EdgeIndex, ObjectIndex, edges_of, incoming_of, name_of, object_of, objects_of, outgoing_of,
+};
 pub use laws::{cycles_are_reached, graphs_are_opening, graphs_are_small};
 pub use problem::{Problem, ProblemKind};
 pub use raw::{RawAttr, RawObject, RawRef, RawValue};
