@@ -14,13 +14,15 @@ use Rattle.hs_graph.specs.Meaning as graph
 use Rattle.hs_graph.proofs.Opening.{few-edges, few-objects, low-names, opening}
 use Rattle.hs_meta.specs.declared.fault.ModelFault.{ModelFault}
 use Rattle.hs_meta.specs.declared.fault.ModelFaultKind.{ModelFaultKind}
+use Rattle.hs_meta.specs.Answers as model_answer
 use Rattle.hs_meta.specs.Faults as wrong_model
 use Rattle.hs_meta.specs.Meaning as model
 use Rattle.hs_meta.proofs.IsMeta.{meant-is_meta, meant-is_small}
 use Rattle.hs_model.specs.declared.fault.Fault.{Fault}
 use Rattle.hs_model.specs.Graph.{at_paths, graph_at}
 use Rattle.hs_model.specs.GraphForm.{objects_of}
-use Rattle.hs_model.specs.Meta.{formed, judged, meta_at}
+use Rattle.hs_model.specs.Meta as meta_form
+use Rattle.hs_model.specs.Meta.{formed, meta_at}
 use Rattle.hs_model.specs.MetaForm.{meta_of}
 use Rattle.hs_types.specs.declared.graph.Graph.{Graph}
 use Rattle.hs_types.specs.declared.meta.Metamodel.{Metamodel}
@@ -46,7 +48,7 @@ pub came : {A B F : Type 0} (next : A → Result B F) (r : Result A F) (y : B) �
 came next (Ok x) y e = (x, refl, e)
 came next (Err fault) y e = absurd (no_ok fault y e)
 
-no_faults : {X : Type 0} (faults : List ModelFault) (x y : X) → judged faults x ≡ Ok y → (faults ≡ []) × (x ≡ y)
+no_faults : {X : Type 0} (faults : List ModelFault) (x y : X) → meta_form.at_paths (model_answer.unless faults x) ≡ Ok y → (faults ≡ []) × (x ≡ y)
 no_faults [] x y e = (refl, same_ok x y _ refl e)
 no_faults (fault ∷ faults) x y e = absurd (no_ok _ y e)
 

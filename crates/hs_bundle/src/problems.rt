@@ -1,27 +1,21 @@
 //! The problems of a graph as they are printed.
 
 ghost use Rattle.std.specs.Prelude.{◌≡◌, ◌++◌, ℕ, List, [], IfOk, OnOk, Some, None, codes, eqb, false, if◌then◌else◌, length, option_map, string_bytes, unwrap_or};
-ghost use Rattle.std.specs.BTreeMap.{get};
-ghost use Rattle.std.specs.Option.{option_or};
-ghost use Rattle.std.specs.Ordering.{nat_cmp};
 ghost use Rattle.serde_json.specs.Data.{string};
 ghost use Rattle.serde_json.specs.View.{view};
 ghost use Rattle.serde_json.specs.Written.{has_float};
+ghost use Rattle.hs_graph.specs.Index.{names_by};
 ghost use Rattle.hs_graph.specs.Problems.{problems_of};
 ghost use Rattle.hs_model.specs.Written.{object_data, name_in};
 ghost use Rattle.hs_types.specs.TypedGraph.{IsTyped, object_at};
 ghost use Rattle.hs_bundle.specs.Problems as spec;
 
 use hs_expr::Text;
-use hs_graph::{Problem, ProblemKind, problems};
+use hs_graph::{ObjectIndex, Problem, ProblemKind, name_of, objects_of, problems};
 use hs_model::class_name;
-use hs_types::{FeatureNo, Graph, Meta, Object, ObjectNo};
+use hs_types::{FeatureNo, Graph, Meta};
 use serde_json::{Value, json};
 use std::alloc::{AllocError, Global};
-use std::collections::BTreeMap;
-
-/// The objects of a graph by their numbers.
-type Objects<'a> = BTreeMap<ObjectNo, &'a Object>;
 
 /// The problems of a typed graph, a line of JSON for each, and a last one with their count.
 pub fn problems_text(alloc: Global, meta: &Meta, graph: &Graph) -> Result<Text, AllocError>
@@ -36,44 +30,14 @@ pub fn problems_text(alloc: Global, meta: &Meta, graph: &Graph) -> Result<Text, 
     Ok(Text::from_string(text))
 }
 
-fn objects_of(alloc: Global, graph: &Graph) -> Result<Objects<'_>, AllocError>
-    ensures { IfOk result (λ m. (n : ℕ) → option_map (λ o. o.now) (get nat_cmp m n) ≡ object_at graph.now n) }
-{
-    let mut objects = Objects::new(alloc);
-    for object in graph.objects.as_slice() {
-        add_object(&mut objects, object)?;
-    }
-    Ok(objects)
-}
-
-/// Adds an object, unless there is one of its number.
-fn add_object<'a>(objects: &mut Objects<'a>, object: &'a Object) -> Result<(), AllocError>
-    ensures { OnOk result ((n : ℕ) → option_map (λ o. o.now) (get nat_cmp objects.new n)
-        ≡ option_or (option_map (λ o. o.now) (get nat_cmp objects.old n)) (if eqb object.now.number n then Some object.now else None)) }
-{
-    if !objects.contains_key(&object.number) {
-        objects.insert(object.number, object)?;
-    }
-    Ok(())
-}
-
-fn name_of<'a>(objects: &Objects<'a>, number: ObjectNo) -> &'a str
-    ensures { result.now ≡ unwrap_or (option_map (λ o. o.now.name) (get nat_cmp objects.now number)) [] }
-{
-    match objects.get(&number) {
-        Some(object) => object.name.as_str(),
-        None => "",
-    }
-}
-
 fn add_problems(
     alloc: Global,
     text: &mut String,
     meta: &Meta,
-    objects: &Objects<'_>,
+    objects: &ObjectIndex<'_>,
     problems: &[Problem],
 ) -> Result<(), AllocError>
-    ensures { (names : ℕ → List ℕ) → ((n : ℕ) → names n ≡ unwrap_or (option_map (λ o. o.now.name) (get nat_cmp objects.now n)) [])
+    ensures { (names : ℕ → List ℕ) → ((n : ℕ) → names n ≡ names_by objects.now n)
         → OnOk result (string_bytes text.new ≡ string_bytes text.old ++ spec.lines_of meta.now names problems.now) }
 {
     for problem in problems {
@@ -86,10 +50,10 @@ fn add_problem(
     alloc: Global,
     text: &mut String,
     meta: &Meta,
-    objects: &Objects<'_>,
+    objects: &ObjectIndex<'_>,
     problem: &Problem,
 ) -> Result<(), AllocError>
-    ensures { (names : ℕ → List ℕ) → ((n : ℕ) → names n ≡ unwrap_or (option_map (λ o. o.now.name) (get nat_cmp objects.now n)) [])
+    ensures { (names : ℕ → List ℕ) → ((n : ℕ) → names n ≡ names_by objects.now n)
         → OnOk result (string_bytes text.new ≡ string_bytes text.old ++ spec.line_of (spec.problem_data meta.now names problem.now)) }
 {
     let object = name_of(objects, problem.object);

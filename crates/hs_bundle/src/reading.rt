@@ -1,4 +1,4 @@
-ghost use Rattle.std.specs.Prelude.{◌≡◌, ◌≤◌, [], length, codes, Ok, IfErr, IfOk};
+ghost use Rattle.std.specs.Prelude.{◌≡◌, [], codes, Ok, IfErr, IfOk};
 ghost use Rattle.std.specs.Arc.{arc_value};
 ghost use Rattle.serde_json.specs.Errors.{IsMemory};
 ghost use Rattle.serde_json.specs.Find.{get};
@@ -127,8 +127,7 @@ fn under<K: Drop>(alloc: Global, key: &str, fault: Fault<K>) -> Result<Fault<K>,
 
 /// The metamodel, its fault told from the bundle.
 fn meta_part(alloc: Global, value: &Value) -> Result<Meta, Failure<BundleFault>>
-    ensures meta { Gives result (spec.model_part (meta_at (view value.now))) }
-    ensures few { IfOk result (λ meta. length meta.classes ≤ 256) }
+    ensures { Gives result (spec.model_part (meta_at (view value.now))) }
 {
     match read_meta(alloc, value) {
         Ok(meta) => Ok(meta),
@@ -142,7 +141,6 @@ fn meta_part(alloc: Global, value: &Value) -> Result<Meta, Failure<BundleFault>>
 
 /// The graph, its fault told from the bundle.
 fn graph_part(alloc: Global, meta: &Meta, value: &Value) -> Result<Graph, Failure<BundleFault>>
-    requires { length meta.now.classes ≤ 256 }
     ensures { Gives result (spec.graph_part (spec.graph_of meta.now (get (codes "graph") (view value.now)))) }
 {
     match graph_at(alloc, meta, value) {
@@ -157,7 +155,6 @@ fn graph_part(alloc: Global, meta: &Meta, value: &Value) -> Result<Graph, Failur
 
 /// The graph of a bundle; empty where it is left out.
 fn graph_at(alloc: Global, meta: &Meta, value: &Value) -> Result<Graph, GraphFailure>
-    requires { length meta.now.classes ≤ 256 }
     ensures { Gives result (spec.graph_of meta.now (get (codes "graph") (view value.now))) }
 {
     match value.get("graph") {

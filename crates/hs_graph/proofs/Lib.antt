@@ -1,6 +1,7 @@
 pub mod Conformance
 pub mod Decimals
 pub mod Lists
+pub mod Rows
 pub mod Places
 pub mod Naming
 pub mod Told

@@ -6,3 +6,4 @@ pub mod Meaning
 pub mod Answers
 pub mod Samples
 pub mod Problems
+pub mod Index

@@ -1,12 +1,12 @@
 //! The classes of objects.
 
-ghost use Rattle.std.specs.Prelude.{◌≡◌, ◌≤◌, ◌^◌, length};
+ghost use Rattle.std.specs.Prelude.{◌≡◌};
 ghost use Rattle.hs_graph.specs.Answers.{PassesWith, unless};
 ghost use Rattle.hs_graph.specs.Faults as spec;
 ghost use Rattle.hs_graph.specs.Lookups as lookups;
 
 use crate::fault::{GraphFault, GraphFaultKind, GraphPlace, fault};
-use crate::lookups::{class_named, is_abstract};
+use crate::lookups::is_abstract;
 use crate::raw::RawObject;
 use hs_expr::{Failure, List};
 use hs_types::{ClassNo, Meta};
@@ -18,7 +18,6 @@ pub fn classes_of(
     meta: &Meta,
     objects: &[RawObject],
 ) -> Result<List<ClassNo>, Failure<GraphFault>>
-    requires { length meta.now.classes ≤ 2 ^ 16 }
     ensures { PassesWith (λ classes. classes ≡ lookups.classes_of meta.now objects.now) result (spec.class_faults meta.now objects.now) }
 {
     let mut classes = List::new(alloc);
@@ -33,10 +32,9 @@ pub fn classes_of(
 
 /// The number of the object's class.
 fn class_of(meta: &Meta, i: usize, object: &RawObject) -> Result<ClassNo, GraphFault>
-    requires { length meta.now.classes ≤ 2 ^ 16 }
     ensures { result ≡ unless (spec.class_faults_at meta.now i object.now) (lookups.class_of meta.now object.now) }
 {
-    match class_named(meta, &object.class) {
+    match meta.class_named(&object.class) {
         None => Err(fault(
             GraphPlace::ObjectClass { object: i },
             GraphFaultKind::UnknownClass,

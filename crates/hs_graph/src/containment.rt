@@ -1,14 +1,12 @@
 //! Which objects contain themselves.
 
-ghost use Rattle.std.specs.Prelude.{◌≡◌, ℕ, [], false, get_or, map, IfOk};
-ghost use Rattle.std.specs.BTreeMap.{get};
+ghost use Rattle.std.specs.Prelude.{◌≡◌, ℕ, false, get_or, map, IfOk};
 ghost use Rattle.std.specs.List.{filter};
-ghost use Rattle.std.specs.Option.{option_map, unwrap_or};
-ghost use Rattle.std.specs.Ordering.{nat_cmp};
 ghost use Rattle.hs_types.specs.TypedGraph.{IsTyped};
+ghost use Rattle.hs_graph.specs.Index.{edges_in};
 ghost use Rattle.hs_graph.specs.Problems as spec;
 
-use crate::index::{EdgesOf, edges_of};
+use crate::index::{EdgeIndex, edges_of};
 use hs_cycles::on_cycles;
 use hs_expr::List;
 use hs_types::{Edge, FeatureKind, FeatureNo, Graph, Meta};
@@ -20,10 +18,10 @@ pub fn cycles_of(
     alloc: Global,
     meta: &Meta,
     graph: &Graph,
-    outgoing: &EdgesOf,
+    outgoing: &EdgeIndex,
 ) -> Result<List<bool>, AllocError>
     requires typed { IsTyped meta.now graph.now }
-    requires indexed { (n : ℕ) → unwrap_or (option_map (λ v. v.items) (get nat_cmp outgoing.now n)) [] ≡ spec.edges_from graph.now n }
+    requires indexed { (n : ℕ) → edges_in outgoing.now n ≡ spec.edges_from graph.now n }
     ensures { IfOk result (λ marks. (n : ℕ) → get_or marks n false ≡ spec.is_in_itself meta.now graph.now n) }
 {
     let contents = contents(alloc, meta, graph, outgoing)?;
@@ -35,9 +33,9 @@ fn contents(
     alloc: Global,
     meta: &Meta,
     graph: &Graph,
-    outgoing: &EdgesOf,
+    outgoing: &EdgeIndex,
 ) -> Result<List<List<usize>>, AllocError>
-    requires { (n : ℕ) → unwrap_or (option_map (λ v. v.items) (get nat_cmp outgoing.now n)) [] ≡ spec.edges_from graph.now n }
+    requires { (n : ℕ) → edges_in outgoing.now n ≡ spec.edges_from graph.now n }
     ensures { IfOk result (λ made. made ≡ spec.contents meta.now graph.now) }
 {
     let mut made = List::new(alloc);

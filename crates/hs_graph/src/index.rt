@@ -1,59 +1,181 @@
-//! The edges of a graph by their sources, and by their targets.
+//! A graph's objects by number, and its edges by their sources or by their targets.
+//!
+//! Where numbers are places, as in a graph that was built, both are looked up by place.
 
-ghost use Rattle.std.specs.Prelude.{◌≡◌, ℕ, ◌++◌, ◌∷◌, [], IfOk, OnOk, eqb, if◌then◌else◌, option_map, unwrap_or};
+ghost use Rattle.std.specs.Prelude.{◌≡◌, ℕ, ◌++◌, ◌∷◌, [], IfOk, OnOk, eqb, if◌then◌else◌, option_map, slice_get, unwrap_or, Some, None};
+ghost use Rattle.std.specs.Option.{option_or};
 ghost use Rattle.std.specs.List.{filter};
 ghost use Rattle.std.specs.Ordering.{nat_cmp};
 ghost use Rattle.std.specs.BTreeMap.{get};
+ghost use Rattle.hs_types.specs.TypedGraph.{object_at};
+ghost use Rattle.hs_graph.specs.Index.{edges_in, names_by, object_in};
+ghost use Rattle.hs_graph.specs.Problems.{edges_from, edges_to};
 
-use hs_types::Edge;
+use hs_types::{Edge, Graph, Object, ObjectNo};
 use std::alloc::{AllocError, Global};
 use std::collections::BTreeMap;
 
-/// The edges of each object.
-pub type EdgesOf = BTreeMap<usize, Vec<Edge>>;
+/// The objects of a graph by their numbers.
+#[derive(Drop)]
+pub struct ObjectIndex<'a> {
+    /// By place those whose numbers are below the number of objects.
+    near: Vec<Option<&'a Object>>,
+    far: BTreeMap<ObjectNo, &'a Object>,
+}
+
+/// The edges of each object, those that leave it or those that lead to it, in the order of their
+/// numbers.
+#[derive(Drop)]
+pub struct EdgeIndex {
+    /// By place those of objects whose numbers are below the number of objects.
+    near: Vec<Vec<Edge>>,
+    far: BTreeMap<usize, Vec<Edge>>,
+}
+
+/// The objects of the graph by their numbers: of one number the first.
+pub fn objects_of(alloc: Global, graph: &Graph) -> Result<ObjectIndex<'_>, AllocError>
+    ensures { IfOk result (λ objects. (n : ℕ) → option_map (λ o. o.now) (object_in objects n) ≡ object_at graph.now n) }
+{
+    let mut objects = no_objects(alloc, graph.objects.len())?;
+    for object in graph.objects.as_slice() {
+        add_object(&mut objects, object)?;
+    }
+    Ok(objects)
+}
+
+fn no_objects<'a>(alloc: Global, places: usize) -> Result<ObjectIndex<'a>, AllocError>
+    ensures { IfOk result (λ objects. (n : ℕ) → object_in objects n ≡ None) }
+{
+    Ok(ObjectIndex {
+        near: vec![in alloc; None; places]?,
+        far: BTreeMap::new(alloc),
+    })
+}
+
+/// Adds an object, unless there is one of its number.
+fn add_object<'a>(objects: &mut ObjectIndex<'a>, object: &'a Object) -> Result<(), AllocError>
+    ensures { OnOk result ((n : ℕ) → option_map (λ o. o.now) (object_in objects.new n)
+        ≡ option_or (option_map (λ o. o.now) (object_in objects.old n)) (if eqb object.now.number n then Some object.now else None)) }
+{
+    let place = object.number as usize;
+    if place < objects.near.len() {
+        if objects.near[place].is_none() {
+            objects.near[place] = Some(object);
+        }
+        return Ok(());
+    }
+    if !objects.far.contains_key(&object.number) {
+        objects.far.insert(object.number, object)?;
+    }
+    Ok(())
+}
+
+/// The name of the object of this number; the empty text where there is no such object.
+pub fn name_of<'a>(objects: &ObjectIndex<'a>, number: ObjectNo) -> &'a str
+    ensures { result.now ≡ names_by objects.now number }
+{
+    match object_of(objects, number) {
+        Some(object) => object.name.as_str(),
+        None => "",
+    }
+}
+
+/// The object of this number.
+pub fn object_of<'a>(objects: &ObjectIndex<'a>, number: ObjectNo) -> Option<&'a Object>
+    ensures { result ≡ object_in objects.now number }
+{
+    match objects.near.get(number as usize) {
+        Some(object) => *object,
+        None => objects.far.get(&number).copied(),
+    }
+}
 
 /// The edges that leave each object.
-pub fn outgoing_of(alloc: Global, edges: &[Edge]) -> Result<EdgesOf, AllocError>
-    ensures { IfOk result (λ m. (n : ℕ) → unwrap_or (option_map (λ v. v.items) (get nat_cmp m n)) [] ≡ filter (λ e. eqb e.source n) edges.now) }
+pub fn outgoing_of(alloc: Global, graph: &Graph) -> Result<EdgeIndex, AllocError>
+    ensures { IfOk result (λ edges. (n : ℕ) → edges_in edges n ≡ edges_from graph.now n) }
 {
-    let mut outgoing = EdgesOf::new(alloc);
-    for edge in edges {
+    let mut outgoing = no_edges(alloc, graph.objects.len())?;
+    for edge in graph.edges.as_slice() {
         add_edge(alloc, &mut outgoing, edge.source as usize, *edge)?;
     }
     Ok(outgoing)
 }
 
 /// The edges that lead to each object.
-pub fn incoming_of(alloc: Global, edges: &[Edge]) -> Result<EdgesOf, AllocError>
-    ensures { IfOk result (λ m. (n : ℕ) → unwrap_or (option_map (λ v. v.items) (get nat_cmp m n)) [] ≡ filter (λ e. eqb e.target n) edges.now) }
+pub fn incoming_of(alloc: Global, graph: &Graph) -> Result<EdgeIndex, AllocError>
+    ensures { IfOk result (λ edges. (n : ℕ) → edges_in edges n ≡ edges_to graph.now n) }
 {
-    let mut incoming = EdgesOf::new(alloc);
-    for edge in edges {
+    let mut incoming = no_edges(alloc, graph.objects.len())?;
+    for edge in graph.edges.as_slice() {
         add_edge(alloc, &mut incoming, edge.target as usize, *edge)?;
     }
     Ok(incoming)
 }
 
-fn add_edge(alloc: Global, index: &mut EdgesOf, object: usize, edge: Edge) -> Result<(), AllocError>
-    ensures { OnOk result ((n : ℕ) → unwrap_or (option_map (λ v. v.items) (get nat_cmp index.new n)) []
-        ≡ unwrap_or (option_map (λ v. v.items) (get nat_cmp index.old n)) [] ++ (if eqb object n then edge ∷ [] else [])) }
+fn no_edges(alloc: Global, places: usize) -> Result<EdgeIndex, AllocError>
+    ensures { IfOk result (λ edges. (n : ℕ) → edges_in edges n ≡ []) }
 {
-    if let Some(edges) = index.get_mut(&object) {
+    Ok(EdgeIndex {
+        near: no_rows(alloc, places)?,
+        far: BTreeMap::new(alloc),
+    })
+}
+
+fn no_rows(alloc: Global, places: usize) -> Result<Vec<Vec<Edge>>, AllocError>
+    ensures { IfOk result (λ near. (n : ℕ) → unwrap_or (option_map (λ v. v.items) (slice_get near.items n)) [] ≡ []) }
+{
+    let mut near = Vec::new(alloc);
+    for _place in 0..places {
+        near.push(Vec::new(alloc))?;
+    }
+    Ok(near)
+}
+
+/// Adds an edge of the object of this number.
+fn add_edge(
+    alloc: Global,
+    edges: &mut EdgeIndex,
+    object: usize,
+    edge: Edge,
+) -> Result<(), AllocError>
+    ensures { OnOk result ((n : ℕ) → edges_in edges.new n ≡ edges_in edges.old n ++ (if eqb object n then edge ∷ [] else [])) }
+{
+    if object < edges.near.len() {
+        edges.near[object].push(edge)?;
+        return Ok(());
+    }
+    add_far(alloc, &mut edges.far, object, edge)?;
+    Ok(())
+}
+
+fn add_far(
+    alloc: Global,
+    far: &mut BTreeMap<usize, Vec<Edge>>,
+    object: usize,
+    edge: Edge,
+) -> Result<(), AllocError>
+    ensures { OnOk result ((n : ℕ) → unwrap_or (option_map (λ v. v.items) (get nat_cmp far.new n)) []
+        ≡ unwrap_or (option_map (λ v. v.items) (get nat_cmp far.old n)) [] ++ (if eqb object n then edge ∷ [] else [])) }
+{
+    if let Some(edges) = far.get_mut(&object) {
         edges.push(edge)?;
         return Ok(());
     }
     let mut edges = Vec::new(alloc);
     edges.push(edge)?;
-    index.insert(object, edges)?;
+    far.insert(object, edges)?;
     Ok(())
 }
 
-/// The edges of this object.
-pub fn edges_of(index: &EdgesOf, object: usize) -> &[Edge]
-    ensures { result.now ≡ unwrap_or (option_map (λ v. v.items) (get nat_cmp index.now object)) [] }
+/// The edges of the object of this number.
+pub fn edges_of(edges: &EdgeIndex, object: usize) -> &[Edge]
+    ensures { result.now ≡ edges_in edges.now object }
 {
-    match index.get(&object) {
-        Some(edges) => edges.as_slice(),
+    if let Some(found) = edges.near.get(object) {
+        return found.as_slice();
+    }
+    match edges.far.get(&object) {
+        Some(found) => found.as_slice(),
         None => &[],
     }
 }

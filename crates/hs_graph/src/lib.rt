@@ -2,7 +2,7 @@
 //! graph that it means.
 #![tactic(auto)]
 
-ghost use Rattle.std.specs.Prelude.{◌≡◌, ◌≤◌, ◌^◌, ◌++◌, ℕ, List, length, OnOk};
+ghost use Rattle.std.specs.Prelude.{◌≡◌, ◌≤◌, ◌++◌, ℕ, List, length, OnOk};
 ghost use Rattle.std.specs.HashMap.{get_by_text};
 ghost use Rattle.hs_expr.specs.Steps.{Gives};
 ghost use Rattle.hs_expr.specs.Verdict.{verdict};
@@ -39,6 +39,9 @@ use crate::fault::{fault, told};
 use crate::numbers::Named;
 pub use examples::{meanings, namings, troubles, wrongs};
 pub use fault::{GraphFault, GraphFaultKind, GraphPlace};
+pub use index::{
+    EdgeIndex, ObjectIndex, edges_of, incoming_of, name_of, object_of, objects_of, outgoing_of,
+};
 pub use laws::{cycles_are_reached, graphs_are_opening, graphs_are_small};
 pub use problem::{Problem, ProblemKind};
 pub use raw::{RawAttr, RawObject, RawRef, RawValue};
@@ -55,7 +58,6 @@ pub fn build(
     meta: &Meta,
     objects: &[RawObject],
 ) -> Result<Graph, Failure<GraphFault>>
-    requires { length meta.now.classes ≤ 2 ^ 16 }
     ensures { Gives result (unless (spec.faults meta.now objects.now) (meaning.meant meta.now objects.now)) }
 {
     told(objects_few(objects))?;
@@ -79,7 +81,6 @@ fn build_few(
     meta: &Meta,
     objects: &[RawObject],
 ) -> Result<Graph, Failure<GraphFault>>
-    requires classes { length meta.now.classes ≤ 2 ^ 16 }
     requires few { length objects.now ≤ 200000 }
     ensures { Gives result (unless (spec.name_faults objects.now ++ spec.faults_from_classes meta.now objects.now) (meaning.meant meta.now objects.now)) }
 {
@@ -95,7 +96,6 @@ fn build_named(
     named: &Named,
     objects: &[RawObject],
 ) -> Result<Graph, Failure<GraphFault>>
-    requires classes { length meta.now.classes ≤ 2 ^ 16 }
     requires few { length objects.now ≤ 200000 }
     requires numbered { (name : List ℕ) → get_by_text named.now.numbers name ≡ lookups.place_of (lookups.object_names objects.now) name }
     requires next { named.now.next_name ≡ meaning.next_name objects.now }

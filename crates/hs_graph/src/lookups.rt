@@ -1,32 +1,14 @@
 //! What names stand for in a metamodel.
 
-ghost use Rattle.std.specs.Prelude.{◌≡◌, ◌≤◌, ◌&&◌, ◌^◌, length, option_copied};
-ghost use Rattle.std.specs.List.{find, position};
-ghost use Rattle.hs_types.specs.Lists.{same_text};
+ghost use Rattle.std.specs.Prelude.{◌≡◌, option_copied};
+ghost use Rattle.std.specs.List.{find};
 ghost use Rattle.hs_types.specs.Metamodel.{is_attribute, supers_of};
 ghost use Rattle.hs_types.specs.Supertypes.{conforms as is_or_below};
 ghost use Rattle.hs_graph.specs.Faults as faults;
 ghost use Rattle.hs_graph.specs.Lookups as spec;
 
 use hs_expr::Text;
-use hs_types::{Class, ClassNo, Feature, FeatureKind, FeatureNo, Meta};
-
-/// The number of the class of this name.
-pub fn class_named(meta: &Meta, name: &Text) -> Option<ClassNo>
-    requires { length meta.now.classes ≤ 2 ^ 16 }
-    ensures { result ≡ spec.class_named meta.now name.now }
-{
-    match place_of_class(meta.plain().classes.as_slice(), name) {
-        Some(place) => Some(place as u16),
-        None => None,
-    }
-}
-
-fn place_of_class(classes: &[Class], name: &Text) -> Option<usize>
-    ensures { result ≡ position (λ class. same_text name.now class.name) classes.now }
-{
-    classes.iter().position(|class| *name == class.name)
-}
+use hs_types::{ClassNo, Feature, FeatureKind, FeatureNo, Meta};
 
 /// Whether the class is there and abstract.
 pub fn is_abstract(meta: &Meta, class: ClassNo) -> bool

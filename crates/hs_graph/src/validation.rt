@@ -1,17 +1,16 @@
 //! The problems of a graph.
 
-ghost use Rattle.std.specs.Prelude.{◌≡◌, ◌++◌, ℕ, [], false, get_or, length, eqb, OnOk, IfOk, unwrap_or};
-ghost use Rattle.std.specs.BTreeMap.{get};
+ghost use Rattle.std.specs.Prelude.{◌≡◌, ◌++◌, ℕ, [], false, get_or, length, eqb, OnOk, IfOk};
 ghost use Rattle.std.specs.List.{filter, flat_map};
-ghost use Rattle.std.specs.Option.{option_map, option_map_or};
-ghost use Rattle.std.specs.Ordering.{nat_cmp};
+ghost use Rattle.std.specs.Option.{option_map_or};
 ghost use Rattle.hs_expr.specs.Verdict.{fault_if};
 ghost use Rattle.hs_types.specs.Metamodel.{feature_at};
 ghost use Rattle.hs_types.specs.TypedGraph.{IsTyped};
+ghost use Rattle.hs_graph.specs.Index.{edges_in};
 ghost use Rattle.hs_graph.specs.Problems as spec;
 
 use crate::containment::{cycles_of, is_containment};
-use crate::index::{EdgesOf, edges_of, incoming_of, outgoing_of};
+use crate::index::{EdgeIndex, edges_of, incoming_of, outgoing_of};
 use crate::problem::{Problem, ProblemKind};
 use hs_expr::List;
 use hs_types::{Edge, FeatureKind, FeatureNo, Graph, Meta, Object, ObjectNo};
@@ -22,9 +21,8 @@ pub fn problems(alloc: Global, meta: &Meta, graph: &Graph) -> Result<List<Proble
     requires { IsTyped meta.now graph.now }
     ensures { IfOk result (λ problems. problems ≡ spec.problems_of meta.now graph.now) }
 {
-    let edges = graph.edges.as_slice();
-    let outgoing = outgoing_of(alloc, edges)?;
-    let incoming = incoming_of(alloc, edges)?;
+    let outgoing = outgoing_of(alloc, graph)?;
+    let incoming = incoming_of(alloc, graph)?;
     let cycles = cycles_of(alloc, meta, graph, &outgoing)?;
     let mut problems = List::new(alloc);
     for object in graph.objects.as_slice() {
@@ -45,14 +43,14 @@ pub fn problems(alloc: Global, meta: &Meta, graph: &Graph) -> Result<List<Proble
 fn add_problems_at(
     meta: &Meta,
     graph: &Graph,
-    outgoing: &EdgesOf,
-    incoming: &EdgesOf,
+    outgoing: &EdgeIndex,
+    incoming: &EdgeIndex,
     cycles: &[bool],
     object: &Object,
     problems: &mut List<Problem>,
 ) -> Result<(), AllocError>
-    requires leave { (n : ℕ) → unwrap_or (option_map (λ v. v.items) (get nat_cmp outgoing.now n)) [] ≡ spec.edges_from graph.now n }
-    requires arrive { (n : ℕ) → unwrap_or (option_map (λ v. v.items) (get nat_cmp incoming.now n)) [] ≡ spec.edges_to graph.now n }
+    requires leave { (n : ℕ) → edges_in outgoing.now n ≡ spec.edges_from graph.now n }
+    requires arrive { (n : ℕ) → edges_in incoming.now n ≡ spec.edges_to graph.now n }
     requires marked { (n : ℕ) → get_or cycles.now n false ≡ spec.is_in_itself meta.now graph.now n }
     ensures { OnOk result (problems.new ≡ problems.old ++ spec.problems_at meta.now graph.now object.now) }
 {

@@ -6,7 +6,6 @@ use Rattle.std.proofs.lemmas.List.{length-map}
 use Rattle.std.proofs.lemmas.List.Sums.{sum_by-le}
 use Rattle.std.specs.List.{All, sum_by}
 use Rattle.hs_expr.specs.Verdict.{verdict, each, each_from, fault_if}
-use Rattle.hs_meta.specs.declared.fault.ModelFault.TheVariants.{Fault}
 use Rattle.hs_meta.specs.declared.fault.ModelFaultKind.TheVariants as kind
 use Rattle.hs_meta.specs.declared.fault.ModelPlace.TheVariants as place
 use Rattle.hs_meta.specs.declared.raw.RawAttribute.{RawAttribute}
@@ -82,8 +81,8 @@ sound classes e =
     let tenth = second_none (spec.repeated_features classes) (spec.many_features classes) inherited in
     record {
       few = ltb-false 256 (length classes) (no_fault (nat_lt 256 (length classes)) _ (first_none (spec.many_classes classes) (spec.wrong_names classes ++ (spec.repeated_classes classes ++ spec.unknown_supers classes)) names));
-      named_apart = λ c class at. no_fault (is_class (take c classes) class.name) _ (none_of_each (λ c class. fault_if (is_class (take c classes) class.name) (Fault (place.ClassName c) kind.Twice)) classes third c class at);
-      no_cycle = λ c class at. no_fault (is_below (supers_of classes) c c) _ (none_of_each (λ c class. fault_if (is_below (supers_of classes) c c) (Fault (place.Class c) kind.SuperCycle)) classes fifth c class at);
+      named_apart = λ c class at. no_fault (is_class (take c classes) class.name) _ (none_of_each (λ c class. fault_if (is_class (take c classes) class.name) (spec.fault (place.ClassName c) kind.Twice)) classes third c class at);
+      no_cycle = λ c class at. no_fault (is_below (supers_of classes) c c) _ (none_of_each (λ c class. fault_if (is_below (supers_of classes) c c) (spec.fault (place.Class c) kind.SuperCycle)) classes fifth c class at);
       types = λ c class at a attribute here.
           let own = first_none (each (spec.unknown_type c) class.attributes) (each (spec.unknown_target classes c) class.references) (none_of_each (λ c class. each (spec.unknown_type c) class.attributes ++ each (spec.unknown_target classes c) class.references) classes sixth c class at) in
           not-false (is_some (data_type_named attribute.data_type)) (no_fault (not (is_some (data_type_named attribute.data_type))) _ (none_of_each (spec.unknown_type c) class.attributes own a attribute here));

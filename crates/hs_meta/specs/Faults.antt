@@ -4,8 +4,9 @@ use Rattle.std.specs.Option.{option_map_or}
 use Rattle.hs_expr.specs.Verdict.{each, fault_if}
 use Rattle.hs_types.specs.Metamodel.{is_of_type}
 use Rattle.hs_meta.specs.declared.fault.ModelFault.{ModelFault}
-use Rattle.hs_meta.specs.declared.fault.ModelFault.TheVariants.{Fault}
+use Rattle.hs_meta.specs.declared.fault.ModelFaultKind.{ModelFaultKind}
 use Rattle.hs_meta.specs.declared.fault.ModelFaultKind.TheVariants as kind
+use Rattle.hs_meta.specs.declared.fault.ModelPlace.{ModelPlace}
 use Rattle.hs_meta.specs.declared.fault.ModelPlace.TheVariants as place
 use Rattle.hs_meta.specs.declared.raw.RawAttribute.{RawAttribute}
 use Rattle.hs_meta.specs.declared.raw.RawClass.{RawClass}
@@ -16,18 +17,21 @@ use Rattle.hs_meta.specs.Names.{data_type_named, differ, is_class, is_identifier
 use Rattle.hs_types.specs.Supertypes.{conforms, is_below}
 use Rattle.hs_meta.specs.Supertypes.{supers_of}
 
+abbrev pub fault : ModelPlace → ModelFaultKind → ModelFault
+fault place kind = record { place = place; kind = kind }
+
 -- First: there are more than 256 classes.
 abbrev pub many_classes : List RawClass → List ModelFault
-many_classes classes = fault_if (nat_lt 256 (length classes)) (Fault place.Classes kind.Limit)
+many_classes classes = fault_if (nat_lt 256 (length classes)) (fault place.Classes kind.Limit)
 
 abbrev pub wrong_attribute_name : ℕ → ℕ → RawAttribute → List ModelFault
-wrong_attribute_name c a attribute = fault_if (not (is_identifier attribute.name)) (Fault (place.AttributeName c a) kind.Name)
+wrong_attribute_name c a attribute = fault_if (not (is_identifier attribute.name)) (fault (place.AttributeName c a) kind.Name)
 
 abbrev pub wrong_reference_name : ℕ → ℕ → RawReference → List ModelFault
-wrong_reference_name c r reference = fault_if (not (is_identifier reference.name)) (Fault (place.ReferenceName c r) kind.Name)
+wrong_reference_name c r reference = fault_if (not (is_identifier reference.name)) (fault (place.ReferenceName c r) kind.Name)
 
 abbrev pub wrong_names_in : ℕ → RawClass → List ModelFault
-wrong_names_in c class = fault_if (not (is_identifier class.name)) (Fault (place.ClassName c) kind.Name) ++ (each (wrong_attribute_name c) class.attributes ++ each (wrong_reference_name c) class.references)
+wrong_names_in c class = fault_if (not (is_identifier class.name)) (fault (place.ClassName c) kind.Name) ++ (each (wrong_attribute_name c) class.attributes ++ each (wrong_reference_name c) class.references)
 
 -- Second: a class, an attribute or a reference has a name that is no identifier.
 abbrev pub wrong_names : List RawClass → List ModelFault
@@ -35,10 +39,10 @@ wrong_names classes = each wrong_names_in classes
 
 -- Third: a class has the name of one before it.
 abbrev pub repeated_classes : List RawClass → List ModelFault
-repeated_classes classes = each (λ c class. fault_if (is_class (take c classes) class.name) (Fault (place.ClassName c) kind.Twice)) classes
+repeated_classes classes = each (λ c class. fault_if (is_class (take c classes) class.name) (fault (place.ClassName c) kind.Twice)) classes
 
 abbrev pub unknown_super : List RawClass → ℕ → ℕ → List ℕ → List ModelFault
-unknown_super classes c s name = fault_if (not (is_class classes name)) (Fault (place.Super c s) kind.UnknownSuper)
+unknown_super classes c s name = fault_if (not (is_class classes name)) (fault (place.Super c s) kind.UnknownSuper)
 
 -- Fourth: a supertype is no class.
 abbrev pub unknown_supers : List RawClass → List ModelFault
@@ -46,13 +50,13 @@ unknown_supers classes = each (λ c class. each (unknown_super classes c) class.
 
 -- Fifth: a class is below itself.
 abbrev pub super_cycles : List RawClass → List ModelFault
-super_cycles classes = each (λ c class. fault_if (is_below (supers_of classes) c c) (Fault (place.Class c) kind.SuperCycle)) classes
+super_cycles classes = each (λ c class. fault_if (is_below (supers_of classes) c c) (fault (place.Class c) kind.SuperCycle)) classes
 
 abbrev pub unknown_type : ℕ → ℕ → RawAttribute → List ModelFault
-unknown_type c a attribute = fault_if (not (is_some (data_type_named attribute.data_type))) (Fault (place.AttributeType c a) kind.UnknownType)
+unknown_type c a attribute = fault_if (not (is_some (data_type_named attribute.data_type))) (fault (place.AttributeType c a) kind.UnknownType)
 
 abbrev pub unknown_target : List RawClass → ℕ → ℕ → RawReference → List ModelFault
-unknown_target classes c r reference = fault_if (not (is_class classes reference.target)) (Fault (place.ReferenceTarget c r) kind.UnknownType)
+unknown_target classes c r reference = fault_if (not (is_class classes reference.target)) (fault (place.ReferenceTarget c r) kind.UnknownType)
 
 -- Sixth: an attribute's type is no data type, or a reference's target is no class.
 abbrev pub unknown_types : List RawClass → List ModelFault
@@ -65,7 +69,7 @@ default_fits data_type (Given value) = option_map_or (λ known. is_of_type known
 default_fits data_type NoValue = false
 
 abbrev pub bad_default : ℕ → ℕ → RawAttribute → List ModelFault
-bad_default c a attribute = fault_if (not (default_fits attribute.data_type attribute.default)) (Fault (place.AttributeDefault c a) kind.BadDefault)
+bad_default c a attribute = fault_if (not (default_fits attribute.data_type attribute.default)) (fault (place.AttributeDefault c a) kind.BadDefault)
 
 -- Seventh: a default is no value of its attribute's type.
 abbrev pub bad_defaults : List RawClass → List ModelFault
@@ -78,7 +82,7 @@ bounds_fit (pos lower) (negsuc n) = eqb n 0
 bounds_fit (negsuc n) upper = false
 
 abbrev pub bad_bound : ℕ → ℕ → RawReference → List ModelFault
-bad_bound c r reference = fault_if (not (bounds_fit reference.lower reference.upper)) (Fault (place.Reference c r) kind.BadBounds)
+bad_bound c r reference = fault_if (not (bounds_fit reference.lower reference.upper)) (fault (place.Reference c r) kind.BadBounds)
 
 -- Eighth: a reference has bounds that no number of targets keeps.
 abbrev pub bad_bounds : List RawClass → List ModelFault
@@ -93,14 +97,14 @@ abbrev pub feature_names : List RawClass → ℕ → List (List ℕ)
 feature_names classes c = each (λ d class. if conforms (supers_of classes) c d then own_names class else []) classes
 
 abbrev pub repeated_features_at : List RawClass → ℕ → RawClass → List ModelFault
-repeated_features_at classes c class = fault_if (not (differ (feature_names classes c))) (Fault (place.Class c) kind.Twice)
+repeated_features_at classes c class = fault_if (not (differ (feature_names classes c))) (fault (place.Class c) kind.Twice)
 
 -- Ninth: a class has two features of one name, inherited ones included.
 abbrev pub repeated_features : List RawClass → List ModelFault
 repeated_features classes = each (repeated_features_at classes) classes
 
 abbrev pub many_features_at : List RawClass → ℕ → RawClass → List ModelFault
-many_features_at classes c class = fault_if (nat_lt 64 (length (feature_names classes c))) (Fault (place.Class c) kind.Limit)
+many_features_at classes c class = fault_if (nat_lt 64 (length (feature_names classes c))) (fault (place.Class c) kind.Limit)
 
 -- Tenth: a class has more than 64 features, inherited ones included.
 abbrev pub many_features : List RawClass → List ModelFault

@@ -1,16 +1,18 @@
 //! The checks of written classes, in their order.
 
 ghost use Rattle.std.specs.Prelude.{◌≡◌};
-ghost use Rattle.hs_meta.specs.Answers.{Builds, Tells};
+ghost use Rattle.hs_expr.specs.Steps.{Gives};
+ghost use Rattle.hs_expr.specs.Verdict.{verdict};
+ghost use Rattle.hs_meta.specs.Answers.{unless};
 ghost use Rattle.hs_meta.specs.Faults as spec;
 ghost use Rattle.hs_types.specs.Supertypes.{rows as rows_for};
 ghost use Rattle.hs_meta.specs.Supertypes as supertypes;
 
-use crate::fault::ModelFault;
+use crate::fault::{ModelFault, told};
 use crate::raw::RawClass;
 use crate::supers::supers_of;
 use crate::{declared, inherited};
-use hs_expr::List;
+use hs_expr::{Failure, List};
 use hs_types::rows_below;
 use std::alloc::Global;
 
@@ -25,10 +27,10 @@ pub struct Supers {
 
 /// The supertypes of classes that are free of faults, and else the first fault of the ten checks.
 #[tactic(auto, using(crate::proofs::Answers::steps))]
-pub fn checked(alloc: Global, classes: &[RawClass]) -> Result<Supers, ModelFault>
-    ensures { Builds result (spec.faults classes.now) (record { direct = supertypes.supers_of classes.now; rows = rows_for (supertypes.supers_of classes.now) }) }
+pub fn checked(alloc: Global, classes: &[RawClass]) -> Result<Supers, Failure<ModelFault>>
+    ensures { Gives result (unless (spec.faults classes.now) (record { direct = supertypes.supers_of classes.now; rows = rows_for (supertypes.supers_of classes.now) })) }
 {
-    declared::names_fit(classes)?;
+    told(declared::names_fit(classes))?;
     let direct = supers_of(alloc, classes)?;
     let rows = rows_below(alloc, direct.as_slice())?;
     check_from_supers(alloc, classes, rows.as_slice())?;
@@ -41,12 +43,12 @@ fn check_from_supers(
     alloc: Global,
     classes: &[RawClass],
     rows: &[List<bool>],
-) -> Result<(), ModelFault>
+) -> Result<(), Failure<ModelFault>>
     requires { rows.now ≡ rows_for (supertypes.supers_of classes.now) }
-    ensures { Tells result (spec.faults_from_supers classes.now) }
+    ensures { Gives result (verdict (spec.faults_from_supers classes.now)) }
 {
-    inherited::no_cycle(classes, rows)?;
-    declared::features_fit(classes)?;
+    told(inherited::no_cycle(classes, rows))?;
+    told(declared::features_fit(classes))?;
     check_inherited(alloc, classes, rows)
 }
 
@@ -56,9 +58,9 @@ fn check_inherited(
     alloc: Global,
     classes: &[RawClass],
     rows: &[List<bool>],
-) -> Result<(), ModelFault>
+) -> Result<(), Failure<ModelFault>>
     requires { rows.now ≡ rows_for (supertypes.supers_of classes.now) }
-    ensures { Tells result (spec.faults_of_inheritance classes.now) }
+    ensures { Gives result (verdict (spec.faults_of_inheritance classes.now)) }
 {
     inherited::features_differ(alloc, classes, rows)?;
     inherited::features_few(alloc, classes, rows)

@@ -6,7 +6,7 @@ ghost use Rattle.hs_types.specs.Metamodel as metamodel;
 ghost use Rattle.hs_meta.specs.Faults as spec;
 ghost use Rattle.hs_meta.specs.Names as names;
 
-use crate::fault::{ModelFault, ModelFaultKind, ModelPlace};
+use crate::fault::{ModelFault, ModelFaultKind, ModelPlace, fault};
 use crate::names::{data_type_named, is_class, is_identifier};
 use crate::raw::{RawAttribute, RawClass, RawDefault, RawReference};
 use hs_expr::{Text, Value, check_each, fault_if};
@@ -35,12 +35,6 @@ pub fn features_fit(classes: &[RawClass]) -> Result<(), ModelFault>
     types_known(classes)?;
     defaults_fit(classes)?;
     bounds_right(classes)
-}
-
-fn fault(place: ModelPlace, kind: ModelFaultKind) -> ModelFault
-    ensures { result ≡ ModelFault.Fault place kind }
-{
-    ModelFault::Fault { place, kind }
 }
 
 fn few_classes(classes: &[RawClass]) -> Result<(), ModelFault>
@@ -105,7 +99,7 @@ fn reference_names_right(c: usize, class: &RawClass) -> Result<(), ModelFault>
 }
 
 fn name_right(name: &Text, place: ModelPlace) -> Result<(), ModelFault>
-    ensures { result ≡ verdict (fault_if (not (names.is_identifier name.now)) (ModelFault.Fault place ModelFaultKind.Name)) }
+    ensures { result ≡ verdict (fault_if (not (names.is_identifier name.now)) (spec.fault place ModelFaultKind.Name)) }
 {
     fault_if(!is_identifier(name), fault(place, ModelFaultKind::Name))
 }

@@ -4,10 +4,9 @@ ghost use Rattle.std.specs.Prelude.{◌≡◌, [], ◌∷◌, None, pos, map, fa
 ghost use Rattle.hs_expr.specs.declared.value.Value.TheVariants as value;
 ghost use Rattle.hs_types.specs.declared.meta.DataType.TheVariants.{EInt, EString};
 ghost use Rattle.hs_types.specs.declared.meta.FeatureKind.TheVariants.{Attribute, Reference};
-ghost use Rattle.hs_meta.specs.declared.fault.ModelFault.TheVariants.{Fault};
 ghost use Rattle.hs_meta.specs.declared.fault.ModelFaultKind.TheVariants as kind;
 ghost use Rattle.hs_meta.specs.declared.fault.ModelPlace.TheVariants as place;
-ghost use Rattle.hs_meta.specs.Faults.{faults};
+ghost use Rattle.hs_meta.specs.Faults.{fault, faults};
 ghost use Rattle.hs_meta.specs.Meaning.{meant};
 ghost use Rattle.hs_meta.specs.Samples.{cycle, diamond};
 
@@ -22,5 +21,5 @@ pub fn inheritance()
 
 /// Of a class that leads to a cycle, and one that lies on it.
 pub fn cycles()
-    ensures { faults cycle.classes ≡ Fault (place.Class 1) kind.SuperCycle ∷ [] }
+    ensures { faults cycle.classes ≡ fault (place.Class 1) kind.SuperCycle ∷ [] }
 {}

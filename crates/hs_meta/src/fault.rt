@@ -1,7 +1,7 @@
 ghost use Rattle.std.specs.Prelude.{◌≡◌};
-ghost use Rattle.hs_meta.specs.declared.fault.ModelFault.TheVariants.{NoMemory};
+ghost use Rattle.hs_expr.specs.Steps.{Gives};
 
-use std::alloc::{AllocError, AllocFailed};
+use hs_expr::Failure;
 
 /// What is wrong in a written metamodel.
 #[derive(Clone, Copy, PartialEq, Eq, Debug)]
@@ -42,26 +42,23 @@ pub enum ModelPlace {
 
 /// Why what is written is no metamodel.
 #[derive(Clone, Copy, PartialEq, Eq, Debug)]
-pub enum ModelFault {
-    Fault {
-        place: ModelPlace,
-        kind: ModelFaultKind,
-    },
-    NoMemory,
+pub struct ModelFault {
+    pub place: ModelPlace,
+    pub kind: ModelFaultKind,
 }
 
-impl From<AllocError> for ModelFault {
-    ghost from_gives = { λ _ e. e ≡ NoMemory };
-
-    fn from(_: AllocError) -> ModelFault {
-        ModelFault::NoMemory
-    }
+pub fn fault(place: ModelPlace, kind: ModelFaultKind) -> ModelFault
+    ensures { result ≡ record { place = place; kind = kind } }
+{
+    ModelFault { place, kind }
 }
 
-impl<T: Drop> From<AllocFailed<T>> for ModelFault {
-    ghost from_gives = { λ _ e. e ≡ NoMemory };
-
-    fn from(_: AllocFailed<T>) -> ModelFault {
-        ModelFault::NoMemory
+/// The same answer, of a call that may want memory.
+pub fn told(answer: Result<(), ModelFault>) -> Result<(), Failure<ModelFault>>
+    ensures { Gives result answer }
+{
+    match answer {
+        Ok(()) => Ok(()),
+        Err(fault) => Err(Failure::Fault(fault)),
     }
 }

@@ -1,17 +1,17 @@
 //! Faults of what classes inherit.
 
 ghost use Rattle.std.specs.Prelude.{◌≡◌, ◌<◌, ◌++◌, [], map, length, IfOk, OnOk, if◌then◌else◌};
+ghost use Rattle.hs_expr.specs.Steps.{Gives};
 ghost use Rattle.hs_expr.specs.Verdict.{verdict, each};
-ghost use Rattle.hs_meta.specs.Answers.{Tells};
 ghost use Rattle.hs_meta.specs.Faults as spec;
 ghost use Rattle.hs_types.specs.Supertypes.{rows as rows_for};
 ghost use Rattle.hs_meta.specs.Supertypes as supertypes;
 ghost use Rattle.hs_types.specs.Supertypes as closed;
 
-use crate::fault::{ModelFault, ModelFaultKind, ModelPlace};
+use crate::fault::{ModelFault, ModelFaultKind, ModelPlace, fault};
 use crate::names::differ;
 use crate::raw::{RawAttribute, RawClass, RawReference};
-use hs_expr::{List, Text, check_each, fault_if};
+use hs_expr::{Failure, List, Text, check_each, fault_if};
 use hs_types::is_below;
 use std::alloc::{AllocError, Global};
 
@@ -29,10 +29,7 @@ pub fn no_cycle(classes: &[RawClass], rows: &[List<bool>]) -> Result<(), ModelFa
         &|c: usize, class: &RawClass| {
             fault_if(
                 is_below(rows, c, c),
-                ModelFault::Fault {
-                    place: ModelPlace::Class { class: c },
-                    kind: ModelFaultKind::SuperCycle,
-                },
+                fault(ModelPlace::Class { class: c }, ModelFaultKind::SuperCycle),
             )
         },
     )
@@ -44,17 +41,17 @@ pub fn features_differ(
     alloc: Global,
     classes: &[RawClass],
     rows: &[List<bool>],
-) -> Result<(), ModelFault>
+) -> Result<(), Failure<ModelFault>>
     requires { rows.now ≡ rows_for (supertypes.supers_of classes.now) }
-    ensures { Tells result (spec.repeated_features classes.now) }
+    ensures { Gives result (verdict (spec.repeated_features classes.now)) }
 {
     for (c, _) in classes.iter().enumerate() {
         let names = feature_names(alloc, classes, rows, c)?;
         if !differ(alloc, names)? {
-            return Err(ModelFault::Fault {
-                place: ModelPlace::Class { class: c },
-                kind: ModelFaultKind::Twice,
-            });
+            return Err(Failure::Fault(fault(
+                ModelPlace::Class { class: c },
+                ModelFaultKind::Twice,
+            )));
         }
     }
     Ok(())
@@ -66,17 +63,17 @@ pub fn features_few(
     alloc: Global,
     classes: &[RawClass],
     rows: &[List<bool>],
-) -> Result<(), ModelFault>
+) -> Result<(), Failure<ModelFault>>
     requires { rows.now ≡ rows_for (supertypes.supers_of classes.now) }
-    ensures { Tells result (spec.many_features classes.now) }
+    ensures { Gives result (verdict (spec.many_features classes.now)) }
 {
     for (c, _) in classes.iter().enumerate() {
         let names = feature_names(alloc, classes, rows, c)?;
         if names.len() > MOST_FEATURES {
-            return Err(ModelFault::Fault {
-                place: ModelPlace::Class { class: c },
-                kind: ModelFaultKind::Limit,
-            });
+            return Err(Failure::Fault(fault(
+                ModelPlace::Class { class: c },
+                ModelFaultKind::Limit,
+            )));
         }
     }
     Ok(())

@@ -2,13 +2,16 @@
 //! means where it has none.
 #![tactic(auto)]
 
-ghost use Rattle.std.specs.Prelude.{◌≡◌, true, IfOk};
+ghost use Rattle.std.specs.Prelude.{◌≡◌, ◌≤◌, true, length, IfOk};
+ghost use Rattle.hs_expr.specs.Steps.{Gives};
+ghost use Rattle.hs_expr.specs.Verdict.{verdict};
 ghost use Rattle.hs_types.specs.Limits.{IsSmallMeta};
 ghost use Rattle.hs_types.specs.Metamodel.{IsMeta, supers_are_classes};
-ghost use Rattle.hs_meta.specs.Answers.{Builds, Tells};
+ghost use Rattle.hs_meta.specs.Answers.{unless};
 ghost use Rattle.hs_meta.specs.Faults as spec;
 ghost use Rattle.hs_meta.specs.Meaning.{meant};
 
+use hs_expr::Failure;
 use hs_types::{Meta, Metamodel};
 use std::alloc::{AllocError, Global};
 
@@ -34,8 +37,9 @@ pub use raw::{RawAttribute, RawClass, RawDefault, RawMeta, RawReference};
 
 /// The metamodel of what is written, where that is free of faults, and else the first fault of the
 /// ten checks, each over the classes in order.
-pub fn build(alloc: Global, raw: RawMeta) -> Result<Meta, ModelFault>
-    ensures built { Builds result (spec.faults raw.classes) (meant raw) }
+#[tactic(auto, using(crate::proofs::Answers::ends))]
+pub fn build(alloc: Global, raw: RawMeta) -> Result<Meta, Failure<ModelFault>>
+    ensures built { Gives result (unless (spec.faults raw.classes) (meant raw)) }
     ensures whole { IfOk result IsMeta }
     ensures small { IfOk result IsSmallMeta }
 {
@@ -46,7 +50,8 @@ pub fn build(alloc: Global, raw: RawMeta) -> Result<Meta, ModelFault>
 
 /// The metamodel with its conformance closed.
 fn closed(alloc: Global, plain: Metamodel) -> Result<Meta, AllocError>
-    requires { supers_are_classes plain ≡ true }
+    requires supers { supers_are_classes plain ≡ true }
+    requires few { length plain.classes ≤ 256 }
     ensures { IfOk result (λ meta. meta ≡ plain) }
 {
     match Meta::new(alloc, plain)? {
@@ -57,8 +62,9 @@ fn closed(alloc: Global, plain: Metamodel) -> Result<Meta, AllocError>
 
 /// Whether what is written is free of faults, and else the first fault of the ten checks, each over
 /// the classes in order.
-pub fn check(alloc: Global, raw: &RawMeta) -> Result<(), ModelFault>
-    ensures { Tells result (spec.faults raw.now.classes) }
+#[tactic(auto, using(crate::proofs::Answers::ends))]
+pub fn check(alloc: Global, raw: &RawMeta) -> Result<(), Failure<ModelFault>>
+    ensures { Gives result (verdict (spec.faults raw.now.classes)) }
 {
     checking::checked(alloc, raw.classes.as_slice())?;
     Ok(())

@@ -2,7 +2,7 @@ use crate::{
     ModelFault, ModelFaultKind, ModelPlace, RawAttribute, RawClass, RawDefault, RawMeta,
     RawReference, build, check,
 };
-use hs_expr::{List, Text, Value};
+use hs_expr::{Failure, List, Text, Value};
 use hs_types::{Class, FeatureKind, Meta};
 use std::alloc::{AllocError, Global};
 use std::test::Fail;
@@ -74,19 +74,23 @@ fn classes(alloc: Global, text: &str) -> Result<List<RawClass>, AllocError> {
     Ok(made)
 }
 
-fn answer(alloc: Global, classes: List<RawClass>) -> Result<(), ModelFault> {
+fn answer(alloc: Global, classes: List<RawClass>) -> Result<(), Failure<ModelFault>> {
     let raw = RawMeta { format: 1, classes };
     check(alloc, &raw)?;
     build(alloc, raw)?;
     Ok(())
 }
 
-fn answer_to(alloc: Global, text: &str) -> Result<(), ModelFault> {
+fn answer_to(alloc: Global, text: &str) -> Result<(), Failure<ModelFault>> {
     answer(alloc, classes(alloc, text)?)
 }
 
-fn is_told(answer: Result<(), ModelFault>, place: ModelPlace, kind: ModelFaultKind) -> bool {
-    answer == Err(ModelFault::Fault { place, kind })
+fn is_told(
+    answer: Result<(), Failure<ModelFault>>,
+    place: ModelPlace,
+    kind: ModelFaultKind,
+) -> bool {
+    answer == Err(Failure::Fault(ModelFault { place, kind }))
 }
 
 #[test]
@@ -197,7 +201,11 @@ fn checks_come_in_their_order(rt: HostRuntime) {
     }
 }
 
-fn one_attribute(alloc: Global, data_type: &str, default: RawDefault) -> Result<(), ModelFault> {
+fn one_attribute(
+    alloc: Global,
+    data_type: &str,
+    default: RawDefault,
+) -> Result<(), Failure<ModelFault>> {
     let mut class = empty_class(alloc, "A")?;
     class
         .attributes
@@ -207,7 +215,7 @@ fn one_attribute(alloc: Global, data_type: &str, default: RawDefault) -> Result<
     answer(alloc, classes)
 }
 
-fn is_bad_default(answer: Result<(), ModelFault>) -> bool {
+fn is_bad_default(answer: Result<(), Failure<ModelFault>>) -> bool {
     is_told(
         answer,
         ModelPlace::AttributeDefault {
@@ -302,7 +310,12 @@ fn unknown_types_are_told(rt: HostRuntime) {
     }
 }
 
-fn one_reference(alloc: Global, target: &str, lower: i64, upper: i64) -> Result<(), ModelFault> {
+fn one_reference(
+    alloc: Global,
+    target: &str,
+    lower: i64,
+    upper: i64,
+) -> Result<(), Failure<ModelFault>> {
     let mut class = empty_class(alloc, "A")?;
     class
         .references
@@ -347,7 +360,7 @@ fn unknown_targets_are_told(rt: HostRuntime) {
     assert!(rt; is_told(answer, place, ModelFaultKind::UnknownType));
 }
 
-fn many_classes(alloc: Global, count: u32) -> Result<(), ModelFault> {
+fn many_classes(alloc: Global, count: u32) -> Result<(), Failure<ModelFault>> {
     let mut classes = List::new(alloc);
     for i in 0..count {
         let name = format!(in alloc; "C{i}")?;
@@ -357,7 +370,7 @@ fn many_classes(alloc: Global, count: u32) -> Result<(), ModelFault> {
 }
 
 /// A class with as many attributes, and one below it.
-fn many_attributes(alloc: Global, count: u32, below: &str) -> Result<(), ModelFault> {
+fn many_attributes(alloc: Global, count: u32, below: &str) -> Result<(), Failure<ModelFault>> {
     let mut first = empty_class(alloc, "A")?;
     for i in 0..count {
         let name = format!(in alloc; "x{i}")?;
@@ -383,7 +396,7 @@ fn limits_are_kept(rt: HostRuntime) {
     assert!(rt; is_told(own, ModelPlace::Class { class: 0 }, limit));
 }
 
-fn built(alloc: Global, text: &str) -> Result<Meta, ModelFault> {
+fn built(alloc: Global, text: &str) -> Result<Meta, Failure<ModelFault>> {
     let classes = classes(alloc, text)?;
     build(alloc, RawMeta { format: 1, classes })
 }
@@ -448,7 +461,7 @@ fn built_default(
     alloc: Global,
     data_type: &str,
     default: RawDefault,
-) -> Result<Option<Value>, ModelFault> {
+) -> Result<Option<Value>, Failure<ModelFault>> {
     let mut class = empty_class(alloc, "A")?;
     class
         .attributes
@@ -490,7 +503,7 @@ fn built_bounds(
     alloc: Global,
     lower: i64,
     upper: i64,
-) -> Result<Option<(u64, Option<u64>)>, ModelFault> {
+) -> Result<Option<(u64, Option<u64>)>, Failure<ModelFault>> {
     let mut class = empty_class(alloc, "A")?;
     class
         .references

@@ -6,10 +6,10 @@ use Rattle.hs_forms.specs.declared.path.Step.{Step}
 use Rattle.hs_forms.specs.declared.path.Step.TheVariants.{Key, Place}
 use Rattle.hs_forms.specs.Form.{Read}
 use Rattle.hs_meta.specs.declared.fault.ModelFault.{ModelFault}
-use Rattle.hs_meta.specs.declared.fault.ModelFault.TheVariants as model
 use Rattle.hs_meta.specs.declared.fault.ModelFaultKind.{ModelFaultKind}
 use Rattle.hs_meta.specs.declared.fault.ModelPlace.{ModelPlace}
 use Rattle.hs_meta.specs.declared.fault.ModelPlace.TheVariants as place
+use Rattle.hs_meta.specs.Answers.{unless}
 use Rattle.hs_meta.specs.Faults.{faults}
 use Rattle.hs_meta.specs.Meaning.{meant}
 use Rattle.hs_types.specs.declared.meta.Metamodel.{Metamodel}
@@ -42,18 +42,16 @@ path_of (place.Reference class number) = in_part class (codes "references") numb
 path_of (place.ReferenceName class number) = in_part class (codes "references") number (Key (codes "name") ∷ [])
 path_of (place.ReferenceTarget class number) = in_part class (codes "references") number (Key (codes "target") ∷ [])
 
--- A fault at its path. Want of memory is none of the faults of a metamodel.
+-- A fault at its path.
 abbrev pub at_path : ModelFault → Fault ModelFaultKind
-at_path (model.Fault place kind) = record { path = path_of place; wrong = Meaning kind }
-at_path model.NoMemory = record { path = []; wrong = Form }
+at_path fault = record { path = path_of fault.place; wrong = Meaning fault.kind }
 
--- What is meant where there are no faults, or the first of them.
-abbrev pub judged : {X : Type 0} → List ModelFault → X → Result X (Fault ModelFaultKind)
-judged [] x = Ok x
-judged (fault ∷ faults) x = Err (at_path fault)
+abbrev pub at_paths : {X : Type 0} → Result X ModelFault → Result X (Fault ModelFaultKind)
+at_paths (Ok x) = Ok x
+at_paths (Err fault) = Err (at_path fault)
 
 -- The metamodel that a value is: of its form, and then of its meaning.
 unfoldable pub meta_at : Data → Result Metamodel (Fault ModelFaultKind)
 meta_at d = do
   raw ← formed (meta_of d)
-  judged (faults raw.classes) (meant raw)
+  at_paths (unless (faults raw.classes) (meant raw))

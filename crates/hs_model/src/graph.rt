@@ -1,6 +1,6 @@
 //! Typed graphs, read whole.
 
-ghost use Rattle.std.specs.Prelude.{◌≡◌, ◌≤◌, ◌^◌, ◌∷◌, [], length, codes, IfOk};
+ghost use Rattle.std.specs.Prelude.{◌≡◌, ◌∷◌, [], codes, IfOk};
 ghost use Rattle.serde_json.specs.View.{view};
 ghost use Rattle.hs_expr.specs.Steps.{Gives};
 ghost use Rattle.hs_forms.specs.declared.path.Step.TheVariants as step;
@@ -27,7 +27,6 @@ pub type GraphFailure = Failure<Fault<GraphFaultKind>>;
 /// first, object by object, and then those of its meaning.
 #[tactic(auto, unfolding(crate::specs::Graph::graph_at))]
 pub fn read_graph(alloc: Global, meta: &Meta, value: &Value) -> Result<Graph, GraphFailure>
-    requires { length meta.now.classes ≤ 2 ^ 16 }
     ensures { Gives result (spec.graph_at meta.now (view value.now)) }
 {
     let objects = formed(raw_objects(alloc, value))?;
@@ -36,7 +35,6 @@ pub fn read_graph(alloc: Global, meta: &Meta, value: &Value) -> Result<Graph, Gr
 
 /// The graph of what is written.
 fn graph_of(alloc: Global, meta: &Meta, objects: &[RawObject]) -> Result<Graph, GraphFailure>
-    requires { length meta.now.classes ≤ 2 ^ 16 }
     ensures { Gives result (spec.at_paths objects.now (unless (faults meta.now objects.now) (meant meta.now objects.now))) }
 {
     match build(alloc, meta, objects) {

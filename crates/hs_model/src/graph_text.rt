@@ -9,14 +9,15 @@ ghost use Rattle.json.specs.Tree.{items_tokens, json_tokens};
 ghost use Rattle.serde_json.specs.Data.{Data, no_members, object, string as text_data};
 ghost use Rattle.serde_json.specs.View.{items_of};
 ghost use Rattle.serde_json.specs.Written.{compact_text, items_outline, outline};
-ghost use Rattle.hs_model.specs.ByName.{edges_in, entry_members, names_by, object_in};
+ghost use Rattle.hs_graph.specs.Index.{edges_in, names_by, object_in};
+ghost use Rattle.hs_model.specs.ByName.{entry_members};
 ghost use Rattle.hs_model.specs.Written.{attrs_data, edges_from, feature_name, graph_data, list_data, object_data, object_line, object_members, reference_member, refs_members, targets_of, value_data, with_members};
 ghost use Rattle.hs_types.specs.Metamodel.{features_of};
 ghost use Rattle.hs_types.specs.TypedGraph.{object_at};
 
-use crate::index::{Objects, Outgoing, edges_from, name_of, objects_of, outgoing_of};
 use crate::values::{class_name, feature_name};
 use hs_expr::{List, Text, Value as Datum};
+use hs_graph::{EdgeIndex, ObjectIndex, edges_of, name_of, objects_of, outgoing_of};
 use hs_types::{ClassNo, Edge, FeatureNo, Graph, Meta, Object, Slot};
 use json::Writer;
 use std::alloc::{AllocError, Global};
@@ -87,8 +88,8 @@ fn add_object(
     alloc: Global,
     out: &mut Writer,
     meta: &Meta,
-    objects: &Objects<'_>,
-    outgoing: &Outgoing,
+    objects: &ObjectIndex<'_>,
+    outgoing: &EdgeIndex,
     object: &Object,
 ) -> Result<(), AllocError>
     ensures ok { (g : Graph) → ((n : ℕ) → option_map (λ o. o.now) (object_in objects.now n) ≡ object_at g n)
@@ -96,7 +97,7 @@ fn add_object(
         → OnOk result (out.new.tokens ≡ out.old.tokens ++ json_tokens (outline (object_line meta.now g object.now))) }
     ensures before { out.new.before ≡ out.old.before }
 {
-    let edges = edges_from(outgoing, object.number);
+    let edges = edges_of(outgoing, object.number as usize);
     add_parts(alloc, out, meta, objects, edges, object)
 }
 
@@ -105,7 +106,7 @@ fn add_parts(
     alloc: Global,
     out: &mut Writer,
     meta: &Meta,
-    objects: &Objects<'_>,
+    objects: &ObjectIndex<'_>,
     edges: &[Edge],
     object: &Object,
 ) -> Result<(), AllocError>
@@ -191,7 +192,7 @@ fn add_refs(
     alloc: Global,
     out: &mut Writer,
     meta: &Meta,
-    objects: &Objects<'_>,
+    objects: &ObjectIndex<'_>,
     class: ClassNo,
     edges: &[Edge],
 ) -> Result<(), AllocError>
@@ -204,7 +205,7 @@ fn add_refs(
 
 fn add_references(
     out: &mut Writer,
-    objects: &Objects<'_>,
+    objects: &ObjectIndex<'_>,
     refs: &BTreeMap<&str, FeatureNo>,
     edges: &[Edge],
 ) -> Result<(), AllocError>
@@ -265,7 +266,7 @@ fn has_edge(edges: &[Edge], reference: FeatureNo) -> bool
 /// Adds the names of the targets at a reference.
 fn add_targets(
     out: &mut Writer,
-    objects: &Objects<'_>,
+    objects: &ObjectIndex<'_>,
     reference: FeatureNo,
     edges: &[Edge],
 ) -> Result<(), AllocError>

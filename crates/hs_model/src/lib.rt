@@ -10,7 +10,6 @@ mod fault;
 mod graph;
 mod graph_form;
 mod graph_text;
-mod index;
 mod meta;
 mod meta_form;
 mod paths;

@@ -4,7 +4,7 @@ ghost use Rattle.std.specs.Prelude.{◌≡◌, ◌≤◌, ◌∷◌, [], length,
 ghost use Rattle.serde_json.specs.View.{view};
 ghost use Rattle.hs_expr.specs.Steps.{Gives};
 ghost use Rattle.hs_forms.specs.declared.path.Step.TheVariants as step;
-ghost use Rattle.hs_meta.specs.Answers.{Builds};
+ghost use Rattle.hs_meta.specs.Answers.{unless};
 ghost use Rattle.hs_meta.specs.Faults.{faults};
 ghost use Rattle.hs_meta.specs.Meaning.{meant};
 ghost use Rattle.hs_model.specs.Meta as spec;
@@ -14,7 +14,7 @@ use crate::paths::{keyed, named, placed};
 use crate::{Fault, Wrong};
 use hs_expr::Failure;
 use hs_forms::Path;
-use hs_meta::{ModelFault, ModelFaultKind, ModelPlace, RawMeta, build};
+use hs_meta::{ModelFaultKind, ModelPlace, RawMeta, build};
 use hs_types::Meta;
 use serde_json::Value;
 use std::alloc::{AllocError, Global};
@@ -50,16 +50,16 @@ pub fn formed<T: Drop, K>(read: Result<T, Failure<Path>>) -> Result<T, Failure<F
 /// The metamodel of what is written.
 #[tactic(auto, using(crate::proofs::Few::meant_few))]
 fn meta_of(alloc: Global, raw: RawMeta) -> Result<Meta, MetaFailure>
-    ensures meta { Gives result (spec.judged (faults raw.classes) (meant raw)) }
+    ensures meta { Gives result (spec.at_paths (unless (faults raw.classes) (meant raw))) }
     ensures few { IfOk result (λ meta. length meta.classes ≤ 256) }
 {
     match build(alloc, raw) {
         Ok(meta) => Ok(meta),
-        Err(ModelFault::Fault { place, kind }) => Err(Failure::Fault(Fault {
-            path: path_of(alloc, place)?,
-            wrong: Wrong::Meaning(kind),
+        Err(Failure::Fault(fault)) => Err(Failure::Fault(Fault {
+            path: path_of(alloc, fault.place)?,
+            wrong: Wrong::Meaning(fault.kind),
         })),
-        Err(ModelFault::NoMemory) => Err(Failure::NoMemory),
+        Err(Failure::NoMemory) => Err(Failure::NoMemory),
     }
 }
 

@@ -1,14 +1,18 @@
-ghost use Rattle.std.specs.Prelude.{◌≡◌, ◌↔◌, IsTrue, Some, None, true, map, nat_lt, if◌then◌else◌, IfOk};
-ghost use Rattle.std.specs.List.{list_all};
+ghost use Rattle.std.specs.Prelude.{◌≡◌, ◌↔◌, ◌&&◌, IsTrue, Some, None, true, map, nat_lt, if◌then◌else◌, IfOk};
+ghost use Rattle.std.specs.List.{list_all, position};
 ghost use Rattle.std.specs.Option.{option_copied};
-ghost use Rattle.hs_types.specs.Metamodel.{Conforms, HaveCommon, IsConcrete, supers_are_classes, supers_of, class_at, feature_at};
+ghost use Rattle.hs_types.specs.Lists.{same_text};
+ghost use Rattle.hs_types.specs.Metamodel.{Conforms, HaveCommon, IsConcrete, classes_are_numbered, supers_are_classes, supers_of, class_at, feature_at};
 ghost use Rattle.hs_types.specs.Supertypes as spec;
 
 use crate::closure::{is_in_row, rows_below};
 use crate::{Class, ClassNo, Feature, FeatureNo, Metamodel};
-use hs_expr::List;
+use hs_expr::{List, Text};
 use std::alloc::{AllocError, Global};
 use std::marker::Model;
+
+/// The most classes of a metamodel: as many as there are class numbers.
+const MOST_CLASSES: usize = 65_536;
 
 /// A metamodel with its conformance closed, so that one look tells whether a class conforms to
 /// another. Contracts see it as the plain [`Metamodel`].
@@ -20,7 +24,7 @@ pub struct Meta {
 }
 
 impl Model for Meta {
-    ghost use Rattle.std.specs.Prelude.{◌≡◌, true};
+    ghost use Rattle.std.specs.Prelude.{◌≡◌, ◌≤◌, true, length};
     ghost use Rattle.hs_types.specs.declared.meta.Metamodel.{Metamodel};
     ghost use Rattle.hs_types.specs.Metamodel.{supers_of, supers_are_classes};
     ghost use Rattle.hs_types.specs.Supertypes as supertypes;
@@ -29,15 +33,17 @@ impl Model for Meta {
 
     ghost view = { λ meta. meta.plain };
 
-    ghost invariant = { λ meta. (supers_are_classes meta.plain ≡ true) × (meta.rows ≡ supertypes.rows (supers_of meta.plain)) };
+    ghost invariant = { λ meta. (supers_are_classes meta.plain ≡ true) × (meta.rows ≡ supertypes.rows (supers_of meta.plain)) × (length meta.plain.classes ≤ 65536) };
 }
 
 impl Meta {
-    /// The metamodel closed, or none where a supertype is no class of it.
+    /// The metamodel closed, or none where a supertype is no class of it, or there are more classes
+    /// than class numbers.
     pub fn new(alloc: Global, plain: Metamodel) -> Result<Option<Meta>, AllocError>
-        ensures { IfOk result (λ made. made ≡ (if supers_are_classes plain then Some plain else None)) }
+        ensures { IfOk result (λ made. made ≡ (if classes_are_numbered plain && supers_are_classes plain then Some plain else None)) }
     {
-        if !are_below(plain.classes.as_slice(), plain.classes.len()) {
+        let count = plain.classes.len();
+        if count > MOST_CLASSES || !are_below(plain.classes.as_slice(), count) {
             return Ok(None);
         }
         let rows = closed_rows(alloc, plain.classes.as_slice())?;
@@ -56,6 +62,16 @@ impl Meta {
         ensures { option_copied result ≡ class_at self.now class }
     {
         self.plain.classes.get(usize::from(class))
+    }
+
+    /// The number of the class of this name.
+    pub fn class_named(&self, name: &Text) -> Option<ClassNo>
+        ensures { result ≡ position (λ class. same_text name.now class.name) self.now.classes }
+    {
+        match place_of_class(self.plain.classes.as_slice(), name) {
+            Some(place) => Some(place as ClassNo),
+            None => None,
+        }
     }
 
     /// The feature of this number.
@@ -114,6 +130,12 @@ impl Meta {
     {
         above < self.plain.classes.len() && is_in_row(self.rows.as_slice(), class, above)
     }
+}
+
+fn place_of_class(classes: &[Class], name: &Text) -> Option<usize>
+    ensures { result ≡ position (λ class. same_text name.now class.name) classes.now }
+{
+    classes.iter().position(|class| *name == class.name)
 }
 
 /// Whether all supertypes are below the count.

@@ -1,12 +1,10 @@
 use Rattle.std.proofs.Common.{◌≡◌, ◌++◌, ℕ, List, [], drop, string_bytes}
-use Rattle.std.specs.Option.{option_map, unwrap_or}
-use Rattle.std.specs.Ordering.{nat_cmp}
-use Rattle.std.specs.BTreeMap.{get}
+use Rattle.hs_graph.specs.Index.{names_by}
 use Rattle.hs_bundle.specs.Problems.{lines_of}
 use Rattle.hs_bundle.proofs.problems.add_problems.Given as goal
 
 -- the text so far, with the lines of the problems that are left, is the whole
 abbrev pub invariant-loop-problem : goal.invariant-loop-problem
 invariant-loop-problem l =
-    (names : ℕ → List ℕ) → ((n : ℕ) → names n ≡ unwrap_or (option_map (λ o. o.now.name) (get nat_cmp l.objects n)) []) →
+    (names : ℕ → List ℕ) → ((n : ℕ) → names n ≡ names_by l.objects n) →
     string_bytes l.text ++ lines_of l.meta names (drop l.problem-index l.problems) ≡ string_bytes l.fn.text ++ lines_of l.meta names l.problems

@@ -1,10 +1,8 @@
-use Rattle.std.proofs.Common.{◌≡◌, ℕ, [], take, eqb}
+use Rattle.std.proofs.Common.{◌≡◌, ℕ, take, eqb}
 use Rattle.std.specs.List.{filter}
-use Rattle.std.specs.Option.{option_map, unwrap_or}
-use Rattle.std.specs.Ordering.{nat_cmp}
-use Rattle.std.specs.BTreeMap.{get}
+use Rattle.hs_graph.specs.Index.{edges_in}
 use Rattle.hs_graph.proofs.index.outgoing_of.Given as goal
 
+-- of each object the edges so far
 abbrev pub invariant-loop-edge : goal.invariant-loop-edge
-invariant-loop-edge l =
-    (n : ℕ) → unwrap_or (option_map (λ v. v.items) (get nat_cmp l.outgoing n)) [] ≡ filter (λ e. eqb e.source n) (take l.edge-index l.edges)
+invariant-loop-edge l = (n : ℕ) → edges_in l.outgoing n ≡ filter (λ e. eqb e.source n) (take l.edge-index l.edge-items)

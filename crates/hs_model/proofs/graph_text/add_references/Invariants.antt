@@ -2,7 +2,8 @@ use Rattle.std.proofs.Common.{◌≡◌, ◌++◌}
 use Rattle.json.specs.Tree.{json_tokens, members_tokens}
 use Rattle.serde_json.specs.Data.{object, string}
 use Rattle.serde_json.specs.Written.{members_outline, outline}
-use Rattle.hs_model.specs.ByName.{entry_members, names_by}
+use Rattle.hs_graph.specs.Index.{names_by}
+use Rattle.hs_model.specs.ByName.{entry_members}
 use Rattle.hs_model.specs.Written.{list_data, targets_of}
 use Rattle.hs_model.proofs.graph_text.add_references.Given as goal
 

@@ -3,7 +3,7 @@ use Rattle.json.specs.Tree.{items_tokens, json_tokens}
 use Rattle.serde_json.specs.Data.{string}
 use Rattle.serde_json.specs.View.{items_of}
 use Rattle.serde_json.specs.Written.{items_outline, outline}
-use Rattle.hs_model.specs.ByName.{names_by}
+use Rattle.hs_graph.specs.Index.{names_by}
 use Rattle.hs_model.specs.Written.{list_data, targets_of}
 use Rattle.hs_model.proofs.graph_text.add_targets.Given as goal
 

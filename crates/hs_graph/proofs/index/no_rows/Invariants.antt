@@ -1,6 +1,6 @@
 use Rattle.std.proofs.Common.{◌≡◌, ℕ, [], slice_get}
 use Rattle.std.specs.Option.{option_map, unwrap_or}
-use Rattle.hs_model.proofs.index.no_edges.Given as goal
+use Rattle.hs_graph.proofs.index.no_rows.Given as goal
 
 -- at each place so far there are no edges
 abbrev pub invariant-loop-place : goal.invariant-loop-place

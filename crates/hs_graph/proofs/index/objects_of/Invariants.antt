@@ -1,8 +1,8 @@
 use Rattle.std.proofs.Common.{◌≡◌, ℕ, take, eqb}
 use Rattle.std.specs.List.{find}
 use Rattle.std.specs.Option.{option_map}
-use Rattle.hs_model.specs.ByName.{object_in}
-use Rattle.hs_model.proofs.index.objects_of.Given as goal
+use Rattle.hs_graph.specs.Index.{object_in}
+use Rattle.hs_graph.proofs.index.objects_of.Given as goal
 
 -- of each number the first object so far
 abbrev pub invariant-loop-object : goal.invariant-loop-object

@@ -1,7 +1,7 @@
 use Rattle.std.proofs.Common.{◌∙◌, ap, sym, cond, Some, None, eqb}
 use Rattle.std.specs.Option.{option_or}
-use Rattle.hs_model.proofs.Lists.{find_more}
-use Rattle.hs_bundle.proofs.problems.objects_of.Goals as goal
+use Rattle.hs_graph.proofs.Rows.{find_more}
+use Rattle.hs_graph.proofs.index.objects_of.Goals as goal
 
 pub loop-object-preserved : goal.loop-object-preserved
 loop-object-preserved c = λ n.

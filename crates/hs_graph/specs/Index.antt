@@ -1,0 +1,22 @@
+-- What an index finds by number.
+use Rattle.std.specs.Prelude.{ℕ, List, [], Option, slice_get}
+use Rattle.std.specs.Borrow.{Bor}
+use Rattle.std.specs.BTreeMap.{get}
+use Rattle.std.specs.Option.{option_map, unwrap_or}
+use Rattle.std.specs.Ordering.{nat_cmp}
+use Rattle.hs_types.specs.declared.graph.Edge.{Edge}
+use Rattle.hs_types.specs.declared.graph.Object.{Object}
+use Rattle.hs_graph.specs.declared.index.EdgeIndex.{EdgeIndex}
+use Rattle.hs_graph.specs.declared.index.ObjectIndex.{ObjectIndex}
+
+-- The object of this number, among those that are found by place or else by number.
+abbrev pub object_in : ObjectIndex → ℕ → Option (Bor Object)
+object_in objects n = unwrap_or (slice_get objects.near.items n) (get nat_cmp objects.far n)
+
+-- The names of objects that are found so.
+abbrev pub names_by : ObjectIndex → ℕ → List ℕ
+names_by objects n = unwrap_or (option_map (λ o. o.now.name) (object_in objects n)) []
+
+-- The edges of the object of this number, found so too.
+abbrev pub edges_in : EdgeIndex → ℕ → List Edge
+edges_in edges n = unwrap_or (option_map (λ v. v.items) (slice_get edges.near.items n)) (unwrap_or (option_map (λ v. v.items) (get nat_cmp edges.far n)) [])

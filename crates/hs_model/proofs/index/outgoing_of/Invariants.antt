@@ -1,9 +1,0 @@
-use Rattle.std.proofs.Common.{◌≡◌, ℕ, take, eqb}
-use Rattle.std.specs.List.{filter}
-use Rattle.hs_model.specs.ByName.{edges_in}
-use Rattle.hs_model.proofs.index.outgoing_of.Given as goal
-
--- of each source the edges so far
-abbrev pub invariant-loop-edge : goal.invariant-loop-edge
-invariant-loop-edge l =
-    (n : ℕ) → edges_in l.outgoing n ≡ filter (λ e. eqb e.source n) (take l.edge-index l.edge-items)
