@@ -1,18 +1,22 @@
 -- Names that differ, and nodes by their names.
-use Rattle.std.proofs.Common.{ℕ, ◌<◌, ◌≡◌, List, Bool, true, false, take, slice_get, Option, Some, None, if◌then◌else◌, refl, ap, sym, ◌∙◌, inl, inr}
+use Rattle.std.proofs.Common.{ℕ, ◌<◌, ◌≡◌, List, Bool, true, false, map, take, slice_get, Option, Some, None, if◌then◌else◌, refl, ap, sym, ◌∙◌, inl, inr}
 use Rattle.std.proofs.lemmas.Bool.{cases_order, false≢true}
 use Rattle.std.proofs.lemmas.Option.{none-some, same_Some}
 use Rattle.std.specs.Option.{option_and_then}
 use Rattle.hs_expr.specs.declared.Name.{Name}
 use Rattle.hs_expr.specs.Equality.{lists_exact, nat_exact}
-use Rattle.hs_types.specs.Lists.{same_text}
+use Rattle.hs_text.specs.declared.syntax.Param.{Param as WrittenParam}
+use Rattle.hs_types.specs.declared.meta.Metamodel.{Metamodel}
+use Rattle.hs_types.specs.declared.rule.Param.{Param}
+use Rattle.hs_types.specs.Lists.{Differ, same_text}
 use Rattle.hs_rules.specs.declared.nodes.DeclaredNode.{DeclaredNode}
 use Rattle.hs_rules.specs.declared.nodes.Home.{Home}
 use Rattle.hs_rules.specs.FirstPass.{is_again}
 use Rattle.hs_rules.specs.Named.{first_named}
 use Rattle.hs_rules.specs.Names.{node_named}
 use Rattle.hs_rules.specs.ThirdPass.{is_open, open_node}
-use Rattle.hs_meaning.proofs.Picked.{find_here, find_some, slice_get-take}
+use Rattle.hs_meaning.specs.Parameters.{param_meant, params_meant}
+use Rattle.hs_meaning.proofs.Picked.{EachPair-from, EachPair-map, find_here, find_some, slice_get-take}
 
 pub text_is : (a b : List ℕ) → same_text a b ≡ true → a ≡ b
 text_is a b e = (lists_exact nat_exact a b).0 e
@@ -47,6 +51,12 @@ only_one {T} name_of xs h name x y k found at called =
     let here = find_here (λ (item : T). same_text name (name_of item).text) xs x found in
     let place = one_place name_of xs h here.0 k x y here.1 at (texts_same (name_of x).text (name_of y).text name here.2 called) in
     same_Some x y (sym here.1 ∙ ap (slice_get xs) place ∙ at)
+
+-- Parameters with names of their own have names that differ.
+pub params_apart : (m : Metamodel) (params : List WrittenParam) → HaveOwn (λ (p : WrittenParam). p.name) params → Differ (map (λ param. param.name) (params_meant m params))
+params_apart m params own = EachPair-map (λ x y. x ≡ y → ⊥) (λ (param : Param). param.name) (params_meant m params)
+    (EachPair-map (λ (p q : Param). p.name ≡ q.name → ⊥) (param_meant m) params
+    (EachPair-from (λ (p q : WrittenParam). p.name.text ≡ q.name.text → ⊥) params (names_apart (λ (p : WrittenParam). p.name) params own)))
 
 -- What is open is the node of the name.
 pub opened : (nodes : List DeclaredNode) (home : Home) (name : List ℕ) (d : DeclaredNode) → open_node nodes home name ≡ Some d → (node_named nodes name ≡ Some d) × (is_open home d ≡ true)

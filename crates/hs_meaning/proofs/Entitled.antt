@@ -44,11 +44,6 @@ use Rattle.hs_meaning.proofs.Silent.{Clean, empty_parts, no_test, yes_test}
 
 -- ---- parameters
 
-pub params_differ : (m : Metamodel) (rule : WrittenRule) → Clean m rule → Differ (map (λ param. param.name) (params_meant m rule.params))
-params_differ m rule clean = EachPair-map (λ x y. x ≡ y → ⊥) (λ (param : Param). param.name) (params_meant m rule.params)
-    (EachPair-map (λ (p q : Param). p.name ≡ q.name → ⊥) (param_meant m) rule.params
-    (EachPair-from (λ (p q : WrittenParam). p.name.text ≡ q.name.text → ⊥) rule.params (names_apart (λ (p : WrittenParam). p.name) rule.params clean.params_new)))
-
 side_is : (direction : WrittenDirection) (mark : WrittenMark) → param_side (direction_meant direction) (mark_meant mark) ≡ is_on_side direction mark
 side_is given.In written.Preserve = refl
 side_is given.In written.Create = refl
@@ -57,7 +52,7 @@ side_is given.Out written.Preserve = refl
 side_is given.Out written.Create = refl
 side_is given.Out written.Delete = refl
 
-in_is : (direction : WrittenDirection) → is_out direction ≡ false → direction_meant direction ≡ In
+pub in_is : (direction : WrittenDirection) → is_out direction ≡ false → direction_meant direction ≡ In
 in_is given.In e = refl
 in_is given.Out e = absurd (false≢true (sym e))
 

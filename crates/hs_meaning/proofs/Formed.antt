@@ -14,14 +14,15 @@ use Rattle.hs_rules.specs.declared.nodes.Home.{Home}
 use Rattle.hs_rules.specs.FourthPass.{has_few, is_multi, is_pattern}
 use Rattle.hs_rules.specs.Nodes.{declared_nodes}
 use Rattle.hs_rules.specs.Statements.{statements}
-use Rattle.hs_rules.specs.UnitFaults.{faults_of, rules_of}
+use Rattle.hs_rules.specs.UnitFaults.{rules_of}
 use Rattle.hs_meaning.specs.Rules.{forbid_at, multi_at, multi_meant, part_meant, require_at, rule_meant, rules_meant, sayings}
-use Rattle.hs_meaning.proofs.Entitled.{names_differ, params_differ, params_fit}
+use Rattle.hs_meaning.proofs.Apart.{params_apart}
+use Rattle.hs_meaning.proofs.Entitled.{names_differ, params_fit}
 use Rattle.hs_meaning.proofs.Faultless.{is_few}
 use Rattle.hs_meaning.proofs.Homes.{are_multis, are_patterns_forbid, are_patterns_require, each_passes, forbid_passes, multi_passes, require_passes}
 use Rattle.hs_meaning.proofs.Parted.{IsFewPart, kernel_fits, kernel_of, multi_fits, part_fits}
 use Rattle.hs_meaning.proofs.Picked.{All-at, All-from}
-use Rattle.hs_meaning.proofs.Silent.{Clean, all_clean}
+use Rattle.hs_meaning.proofs.Silent.{Clean}
 use Rattle.hs_meaning.proofs.Small.{small}
 
 few_forbids : (m : Metamodel) (rule : WrittenRule) → Clean m rule → All (IsFewPart rule) (each forbid_at rule.items)
@@ -45,7 +46,7 @@ multis_fit m is rule clean = All-map (IsMulti m (rule_meant m rule)) (multi_mean
 
 formed : (m : Metamodel) → IsMeta m → (rule : WrittenRule) → Clean m rule → IsRule m (rule_meant m rule)
 formed m is rule clean = record {
-  params_differ = params_differ m rule clean;
+  params_differ = params_apart m rule.params clean.params_new;
   params_fit = params_fit m rule clean;
   names_differ = names_differ m rule clean;
   kernel = kernel_fits m is rule clean (few_multis m rule clean);
@@ -54,8 +55,8 @@ formed m is rule clean = record {
   multis = multis_fit m is rule clean;
 }
 
-pub all_formed : (m : Metamodel) (definitions : List Definition) → IsMeta m → faults_of m definitions ≡ [] → All (λ rule. IsRule m rule × IsSmallRule rule) (rules_meant m definitions)
-all_formed m definitions is none = All-map (λ (rule : Rule). IsRule m rule × IsSmallRule rule) (rule_meant m) (rules_of definitions)
+pub all_formed : (m : Metamodel) (definitions : List Definition) → IsMeta m → All (Clean m) (rules_of definitions) → All (λ rule. IsRule m rule × IsSmallRule rule) (rules_meant m definitions)
+all_formed m definitions is clean = All-map (λ (rule : Rule). IsRule m rule × IsSmallRule rule) (rule_meant m) (rules_of definitions)
     (All-weaker (Clean m) (λ (rule : WrittenRule). IsRule m (rule_meant m rule) × IsSmallRule (rule_meant m rule))
     (λ rule clean. (formed m is rule clean, small m rule clean (few_forbids m rule clean) (few_requires m rule clean) (few_multis m rule clean)))
-    (rules_of definitions) (all_clean m definitions none))
+    (rules_of definitions) clean)

@@ -19,9 +19,9 @@ use Rattle.hs_rules.specs.declared.nodes.Home.{Home}
 use Rattle.hs_rules.specs.declared.nodes.Home.TheVariants as home
 use Rattle.hs_rules.specs.Names.{feature_named, is_named, target_named}
 use Rattle.hs_rules.specs.ThirdPass.{class_of, edge_checked, may_join, same_home, target_from}
+use Rattle.hs_rules.proofs.Classes.{does_conform}
 use Rattle.hs_meaning.specs.Elements.{edge_meant, feature_found, feature_number, mark_meant, node_meant, node_number, nodes_in}
 use Rattle.hs_meaning.specs.Parameters.{class_meant}
-use Rattle.hs_meaning.proofs.Classed.{does_conform}
 use Rattle.hs_meaning.proofs.Opening.{Opens, Spot, called}
 use Rattle.hs_meaning.proofs.Silent.{sound_edge}
 use Rattle.hs_meaning.proofs.Coming.{came, found-has, test_holds}

@@ -2,6 +2,7 @@ mod Attributes
 mod Nesting
 pub mod Picked
 pub mod Silent
+pub mod SilentUnits
 pub mod Following
 pub mod Apart
 pub mod Coming
@@ -18,4 +19,8 @@ pub mod Homes
 pub mod Parted
 pub mod Entitled
 pub mod Small
+pub mod Suited
+pub mod Called
 pub mod Formed
+pub mod FormedUnits
+pub mod FormedSet

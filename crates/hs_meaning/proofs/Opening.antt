@@ -63,14 +63,14 @@ not_in m ds own part name d found away =
 
 -- ---- numbers
 
-position_there : {A : Type 0} (p : A → Bool) (xs : List A) → position_or_len p xs < length xs → position p xs ≡ Some (position_or_len p xs)
+pub position_there : {A : Type 0} (p : A → Bool) (xs : List A) → position_or_len p xs < length xs → position p xs ≡ Some (position_or_len p xs)
 position_there p xs low = cond-true (nat_lt (position_or_len p xs) (length xs)) (Some (position_or_len p xs)) None (lt-ltb (position_or_len p xs) (length xs) low)
 
 pub number_there : (n : ℕ) → n < 65536 → number n ≡ Some n
 number_there n low = cond-true (nat_lt n 65536) (Some n) None (lt-ltb n 65536 low)
 
 -- What a name finds among few stands at the number of the name.
-place_there : {A : Type 0} (p : A → Bool) (xs : List A) (x : A) → length xs ≤ 65536 → find p xs ≡ Some x → (option_and_then number (position p xs) ≡ Some (position_or_len p xs)) × (slice_get xs (position_or_len p xs) ≡ Some x)
+pub place_there : {A : Type 0} (p : A → Bool) (xs : List A) (x : A) → length xs ≤ 65536 → find p xs ≡ Some x → (option_and_then number (position p xs) ≡ Some (position_or_len p xs)) × (slice_get xs (position_or_len p xs) ≡ Some x)
 place_there p xs x few found =
     let at = sym (find_at p xs) ∙ found in
     let low = slice_get_within xs (position_or_len p xs) x at in

@@ -1,9 +1,11 @@
 -- Items of lists: what is picked out of a list, what is made of each, and what is found by a test.
-use Rattle.std.proofs.Common.{ℕ, zero, suc, ◌+◌, ◌<◌, ◌≤◌, ◌≡◌, ◌++◌, List, [], ◌∷◌, Bool, true, false, not, cond, map, length, take, get_or, slice_get, Option, Some, None, is_some, refl, ap, sym, ◌∙◌, subst, arith, add-zero}
-use Rattle.std.proofs.lemmas.Bool.{false≢true}
+use Rattle.std.proofs.Common.{ℕ, zero, suc, ◌+◌, ◌<◌, ◌≤◌, ◌≡◌, ◌++◌, List, [], ◌∷◌, Bool, true, false, not, cond, map, length, nat_le, take, get_or, slice_get, nat_lt, ◌||◌, if◌then◌else◌, Option, Some, None, is_some, refl, ap, sym, ◌∙◌, subst, inl, inr, arith, add-zero}
+use Rattle.std.proofs.lemmas.Bool.{and_parts, false≢true, le-leb, ltb-true}
+use Rattle.std.proofs.lemmas.List.{length-map, length-take-le}
+use Rattle.std.proofs.lemmas.List.Folds.{find_at}
 use Rattle.std.proofs.lemmas.List.Elements.{All-append, All-cons, All-head, All-nil, All-tail}
-use Rattle.std.proofs.lemmas.Option.{get_or_from_slice_get, none-some, same_Some, slice_get-get_or, slice_get_within}
-use Rattle.std.specs.List.{All, cons_option, filter, filter_map, find, flat_map, position_or_len}
+use Rattle.std.proofs.lemmas.Option.{get_or_from_slice_get, none-some, same_Some, slice_get-get_or, slice_get_cases, slice_get_within}
+use Rattle.std.specs.List.{All, cons_option, filter, filter_map, find, flat_map, list_all, list_any, position, position_or_len}
 use Rattle.hs_expr.specs.Verdict.{each_from}
 use Rattle.hs_types.specs.Lists.{EachPair}
 
@@ -51,6 +53,15 @@ pub slice_get-behind : {A : Type 0} (xs ys : List A) (i n : ℕ) → n ≡ lengt
 slice_get-behind [] ys i n e = let same : n ≡ i = omega arith in ap (slice_get ys) same
 slice_get-behind (x ∷ xs) ys i zero e = absurd (omega arith)
 slice_get-behind (x ∷ xs) ys i (suc n) e = slice_get-behind xs ys i n (omega arith)
+
+-- There are at most n items, where none stands behind n others.
+pub few_items : {A : Type 0} (n : ℕ) (xs : List A) → ((k : ℕ) (x : A) → slice_get xs k ≡ Some x → nat_le n (length (take k xs)) ≡ false) → length xs ≤ n
+few_items n xs h = elim (slice_get_cases xs n).1 [
+  | inl there ↦
+      let whole = length-take-le n xs (let low = there.1 in omega arith) in
+      absurd (false≢true (sym (h n there.0 there.2) ∙ le-leb n (length (take n xs)) (omega arith)))
+  | inr past ↦ past.0
+]
 
 -- ---- picked items
 
@@ -209,3 +220,66 @@ found_behind {A} p (x ∷ xs) ys e = go (p x) e (found_behind p xs ys)
     go : (b : Bool) → cond b (Some x) (find p xs) ≡ None → (find p xs ≡ None → length xs ≤ position_or_len p (xs ++ ys)) → suc (length xs) ≤ cond (not b) (1 + position_or_len p (xs ++ ys)) 0
     go true e rest = absurd (none-some x (sym e))
     go false e rest = let low = rest e in omega arith
+
+-- What is found of the items is found of what is made of them.
+pub any_made : {A B : Type 0} (p : A → Bool) (q : B → Bool) (f : A → B) (xs : List A) → ((x : A) → q (f x) ≡ p x) → is_some (find p xs) ≡ true → list_any q (map f xs) ≡ true
+any_made p q f [] agree e = absurd (false≢true e)
+any_made {A} p q f (x ∷ xs) agree e = go (p x) (q (f x)) (agree x) e (any_made p q f xs agree)
+  where
+    go : (b c : Bool) → c ≡ b → is_some (cond b (Some x) (find p xs)) ≡ true → (is_some (find p xs) ≡ true → list_any q (map f xs) ≡ true) → (c || list_any q (map f xs)) ≡ true
+    go true c same e rest = rw same refl
+    go false c same e rest = rw same (rest e)
+
+-- Of the items that pass one test all pass another.
+pub all_filtered : {A : Type 0} (p q : A → Bool) (xs : List A) → list_all p (filter q xs) ≡ true → (k : ℕ) (x : A) → slice_get xs k ≡ Some x → q x ≡ true → p x ≡ true
+all_filtered p q [] e k x at is = absurd (none-some x at)
+all_filtered p q (z ∷ xs) e zero x at is = first (q z) refl e
+  where
+    first : (b : Bool) → q z ≡ b → list_all p (cond b (z ∷ filter q xs) (filter q xs)) ≡ true → p x ≡ true
+    first true t e = ap p (sym (same_Some z x at)) ∙ (and_parts (p z) (list_all p (filter q xs)) e).0
+    first false t e = absurd (false≢true (sym t ∙ ap q (same_Some z x at) ∙ is))
+all_filtered p q (z ∷ xs) e (suc k) x at is = all_filtered p q xs (rest (q z) e) k x at is
+  where
+    rest : (b : Bool) → list_all p (cond b (z ∷ filter q xs) (filter q xs)) ≡ true → list_all p (filter q xs) ≡ true
+    rest true e = (and_parts (p z) (list_all p (filter q xs)) e).1
+    rest false e = e
+
+-- Where no item is left out, all are kept.
+pub each_kept : {A : Type 0} (left_out : ℕ → A → Bool) (n : ℕ) (xs : List A) → ((k : ℕ) (x : A) → slice_get xs k ≡ Some x → left_out (n + k) x ≡ false) → each_from (λ i x. if left_out i x then [] else x ∷ []) n xs ≡ xs
+each_kept left_out n [] h = refl
+each_kept {A} left_out n (x ∷ xs) h =
+    go (left_out n x) (ap (λ i. left_out i x) (sym (add-zero n)) ∙ h 0 x refl)
+    (each_kept left_out (n + 1) xs (λ k y at. let later : n + 1 + k ≡ n + suc k = omega arith in ap (λ i. left_out i y) later ∙ h (suc k) y at))
+  where
+    go : (b : Bool) → b ≡ false → each_from (λ i x. if left_out i x then [] else x ∷ []) (n + 1) xs ≡ xs → (if b then [] else x ∷ []) ++ each_from (λ i x. if left_out i x then [] else x ∷ []) (n + 1) xs ≡ x ∷ xs
+    go true e rest = absurd (false≢true (sym e))
+    go false e rest = ap (λ ys. x ∷ ys) rest
+
+-- ---- places
+
+pub position_within : {A : Type 0} (p : A → Bool) (xs : List A) (n : ℕ) → position p xs ≡ Some n → n < length xs
+position_within p xs n e = go (nat_lt (position_or_len p xs) (length xs)) refl e
+  where
+    go : (b : Bool) → nat_lt (position_or_len p xs) (length xs) ≡ b → cond b (Some (position_or_len p xs)) None ≡ Some n → n < length xs
+    go true low e = subst (λ k. k < length xs) (same_Some (position_or_len p xs) n e) (ltb-true (position_or_len p xs) (length xs) low)
+    go false low e = absurd (none-some n e)
+
+pub some_within : {A : Type 0} (xs : List A) (n : ℕ) → n < length xs → is_some (slice_get xs n) ≡ true
+some_within [] n low = absurd (omega arith)
+some_within (x ∷ xs) zero low = refl
+some_within (x ∷ xs) (suc n) low = some_within xs n (omega arith)
+
+pub position_mapped : {A B : Type 0} (p : B → Bool) (f : A → B) (xs : List A) → position p (map f xs) ≡ position (λ x. p (f x)) xs
+position_mapped p f xs = rw (or_len_mapped p f xs, length-map xs f) refl
+  where
+    or_len_mapped : {A B : Type 0} (p : B → Bool) (f : A → B) (xs : List A) → position_or_len p (map f xs) ≡ position_or_len (λ x. p (f x)) xs
+    or_len_mapped p f [] = refl
+    or_len_mapped p f (x ∷ xs) = ap (λ n. cond (not (p (f x))) (1 + n) 0) (or_len_mapped p f xs)
+
+-- What isn't found has no place.
+pub position_absent : {A : Type 0} (p : A → Bool) (xs : List A) → find p xs ≡ None → position p xs ≡ None
+position_absent {A} p xs none = go (nat_lt (position_or_len p xs) (length xs)) refl
+  where
+    go : (b : Bool) → nat_lt (position_or_len p xs) (length xs) ≡ b → cond b (Some (position_or_len p xs)) None ≡ None
+    go true low = absurd (false≢true (sym (ap (λ (o : Option A). is_some o) (sym (find_at p xs) ∙ none)) ∙ some_within xs (position_or_len p xs) (ltb-true (position_or_len p xs) (length xs) low)))
+    go false low = refl

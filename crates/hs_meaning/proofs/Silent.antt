@@ -1,9 +1,9 @@
 -- What is so of a rule in which no fault is found.
-use Rattle.std.proofs.Common.{ℕ, zero, suc, ◌+◌, ◌≡◌, ◌++◌, List, [], ◌∷◌, Bool, true, false, not, ◌&&◌, is_some, take, Option, Some, None, Result, Ok, Err, slice_get, refl, ap, sym, ◌∙◌, arith, zero-add, add-zero}
+use Rattle.std.proofs.Common.{ℕ, zero, suc, ◌+◌, ◌≡◌, ◌++◌, List, [], ◌∷◌, Bool, true, false, not, ◌&&◌, is_some, length, nat_le, take, Option, Some, None, Result, Ok, Err, slice_get, refl, ap, sym, ◌∙◌, arith, zero-add, add-zero}
 use Rattle.std.proofs.lemmas.Bool.{and_parts, not-false}
-use Rattle.std.proofs.lemmas.List.Elements.{All-cons, All-nil}
+use Rattle.std.proofs.lemmas.List.{append-nil, append_assoc}
 use Rattle.std.proofs.lemmas.Option.{none-some, same_Some}
-use Rattle.std.specs.List.{All, flat_map}
+use Rattle.std.specs.List.{flat_map}
 use Rattle.std.specs.Option.{option_map_or}
 use Rattle.hs_expr.specs.declared.Kind.{Kind}
 use Rattle.hs_expr.specs.declared.Kind.TheVariants as sort
@@ -24,7 +24,7 @@ use Rattle.hs_text.specs.Trees.{Tree, tree_of}
 use Rattle.hs_types.specs.declared.meta.Metamodel.{Metamodel}
 use Rattle.hs_rules.specs.declared.nodes.DeclaredNode.{DeclaredNode}
 use Rattle.hs_rules.specs.declared.nodes.Home.{Home}
-use Rattle.hs_rules.specs.Faults.{faults_behind, faults_in_rule, faults_of_definition, faults_of_rules, last_passes, later_passes, rule_of}
+use Rattle.hs_rules.specs.Faults.{faults_behind, faults_in_rule, faults_of_rule, faults_of_rules, last_passes, later_passes}
 use Rattle.hs_rules.specs.FirstPass.{class_faults, faults_of_nodes, faults_of_params, has_objects, is_again, is_created, kind_faults, node_faults, param_faults}
 use Rattle.hs_rules.specs.FourthPass.{fourth_pass, keeps_limits}
 use Rattle.hs_rules.specs.Names.{class_named}
@@ -32,7 +32,7 @@ use Rattle.hs_rules.specs.Nodes.{declared_nodes}
 use Rattle.hs_rules.specs.SecondPass.{fit_faults, second_pass}
 use Rattle.hs_rules.specs.Statements.{Statement, statements}
 use Rattle.hs_rules.specs.ThirdPass.{Slot, attribute_kind, edge_checked, in_rule, is_deleted, is_of_class, is_set, kind_checked, may_join, names_from, open_node, same_home, same_kind, set_checked, slot_of, statement_checked, target_from, third_pass, told, where_checked}
-use Rattle.hs_rules.specs.UnitFaults.{faults_of, faults_of_units}
+use Rattle.hs_rules.specs.UnitFaults.{rules_of}
 
 -- ---- nothing that is told
 
@@ -59,7 +59,7 @@ clean_from finds n (y ∷ ys) e (suc k) x at =
     ap (λ i. finds i x) later ∙ clean_from finds (n + 1) ys (empty_parts (finds n y) (each_from finds (n + 1) ys) e).1 k x at
 
 -- Nothing is found at an item of a list where nothing is found.
-clean_at : {X E : Type 0} (finds : ℕ → X → List E) (xs : List X) → each finds xs ≡ [] → (k : ℕ) (x : X) → slice_get xs k ≡ Some x → finds k x ≡ []
+pub clean_at : {X E : Type 0} (finds : ℕ → X → List E) (xs : List X) → each finds xs ≡ [] → (k : ℕ) (x : X) → slice_get xs k ≡ Some x → finds k x ≡ []
 clean_at finds xs e k x at = ap (λ i. finds i x) (sym (zero-add k)) ∙ clean_from finds 0 xs e k x at
 
 -- ---- definitions in steps
@@ -130,7 +130,7 @@ pub record Clean (m : Metamodel) (rule : Rule) : Type 0 where
   pub said : (k : ℕ) (s : Statement) → slice_get (statements rule.items) k ≡ Some s → statement_checked m rule.params (declared_nodes rule.items) (flat_map slot_of (take k (statements rule.items))) s ≡ Ok tt
   pub limits : keeps_limits m rule ≡ true
 
-pub clean : (m : Metamodel) (rule : Rule) → faults_in_rule m rule ≡ [] → Clean m rule
+clean : (m : Metamodel) (rule : Rule) → faults_in_rule m rule ≡ [] → Clean m rule
 clean m rule e =
     let nodes = declared_nodes rule.items in
     let params = rule.params in
@@ -148,18 +148,34 @@ clean m rule e =
       limits = yes_test (keeps_limits m rule) _ d.1;
     }
 
--- In each rule of a text without faults none is found.
-rules_clean : (m : Metamodel) (before : List Rule) (definitions : List Definition) → faults_behind m before definitions ≡ [] → All (Clean m) (flat_map rule_of definitions)
-rules_clean m before [] e = All-nil (Clean m)
-rules_clean m before (definition.Rule rule ∷ definitions) e =
-    let parts = empty_parts (faults_of_definition m before (definition.Rule rule)) (faults_behind m (before ++ rule ∷ []) definitions) e in
-    let late = empty_parts (fault_if _ _) (fault_if (is_again (λ (other : Rule). other.name) before rule.name) _ ++ faults_in_rule m rule) parts.0 in
-    let own = empty_parts (fault_if (is_again (λ (other : Rule). other.name) before rule.name) _) (faults_in_rule m rule) late.1 in
-    All-cons (Clean m) rule (flat_map rule_of definitions) (clean m rule own.1) (rules_clean m (before ++ rule ∷ []) definitions parts.1)
-rules_clean m before (definition.Unit unit ∷ definitions) e = rules_clean m (before ++ []) definitions e
+-- What is found of each rule of these, behind those before, where nothing is found of all.
+rules_at : (m : Metamodel) (before : List Rule) (definitions : List Definition) → faults_behind m before definitions ≡ [] → (k : ℕ) (rule : Rule) → slice_get (rules_of definitions) k ≡ Some rule → faults_of_rule m (before ++ take k (rules_of definitions)) rule ≡ []
+rules_at m before [] e k rule at = absurd (none-some rule at)
+rules_at m before (definition.Rule first ∷ definitions) e zero rule at =
+    ap (λ (b : List Rule). faults_of_rule m b rule) (append-nil before)
+    ∙ ap (faults_of_rule m before) (sym (same_Some first rule at))
+    ∙ (empty_parts (faults_of_rule m before first) (faults_behind m (before ++ first ∷ []) definitions) e).0
+rules_at m before (definition.Rule first ∷ definitions) e (suc k) rule at =
+    ap (λ (b : List Rule). faults_of_rule m b rule) (sym (append_assoc before (first ∷ []) (take k (rules_of definitions))))
+    ∙ rules_at m (before ++ first ∷ []) definitions (empty_parts (faults_of_rule m before first) (faults_behind m (before ++ first ∷ []) definitions) e).1 k rule at
+rules_at m before (definition.Unit unit ∷ definitions) e k rule at =
+    ap (λ (b : List Rule). faults_of_rule m (b ++ take k (rules_of definitions)) rule) (sym (append-nil before))
+    ∙ rules_at m (before ++ []) definitions e k rule at
 
-pub all_clean : (m : Metamodel) (definitions : List Definition) → faults_of m definitions ≡ [] → All (Clean m) (flat_map rule_of definitions)
-all_clean m definitions e = rules_clean m [] definitions (empty_parts (faults_of_rules m definitions) (faults_of_units m definitions) e).0
+-- A rule behind those before it, of which nothing is found.
+pub record NextRule (m : Metamodel) (before : List Rule) (rule : Rule) : Type 0 where
+  pub few : nat_le 64 (length before) ≡ false
+  pub new : is_again (λ (other : Rule). other.name) before rule.name ≡ false
+  pub clean : Clean m rule
+
+next_rule : (m : Metamodel) (before : List Rule) (rule : Rule) → faults_of_rule m before rule ≡ [] → NextRule m before rule
+next_rule m before rule e =
+    let a = empty_parts (fault_if (nat_le 64 (length before)) _) (fault_if (is_again (λ (other : Rule). other.name) before rule.name) _ ++ faults_in_rule m rule) e in
+    let b = empty_parts (fault_if (is_again (λ (other : Rule). other.name) before rule.name) _) (faults_in_rule m rule) a.1 in
+    record { few = no_test _ _ a.0; new = no_test _ _ b.0; clean = clean m rule b.1 }
+
+pub each_rule : (m : Metamodel) (definitions : List Definition) → faults_of_rules m definitions ≡ [] → (k : ℕ) (rule : Rule) → slice_get (rules_of definitions) k ≡ Some rule → NextRule m (take k (rules_of definitions)) rule
+each_rule m definitions e k rule at = next_rule m (take k (rules_of definitions)) rule (rules_at m [] definitions e k rule at)
 
 -- ---- each statement
 
@@ -186,7 +202,7 @@ sound_edge m nodes home mark source target reference e =
     let first = and_parts (is_of_class m class.0 to.0) (may_join home mark from.0.mark) both.0 in
     record { from = from.0; to = to.0; class = class.0; from_open = from.1; to_open = to.1; leads = class.1; below = first.0; joins_from = first.1; joins_to = both.1 }
 
-kinds_same : (a b : Kind) → same_kind a b ≡ true → a ≡ b
+pub kinds_same : (a b : Kind) → same_kind a b ≡ true → a ≡ b
 kinds_same sort.Int sort.Int e = refl
 kinds_same sort.Bool sort.Bool e = refl
 kinds_same sort.Text sort.Text e = refl

@@ -6,3 +6,4 @@ pub mod Rules
 pub mod Units
 pub mod Meaning
 pub mod Samples
+pub mod SetSamples

@@ -3,6 +3,8 @@
 ghost use Rattle.std.specs.Prelude.{◌≡◌, IfOk};
 ghost use Rattle.std.specs.Arc.{arc_value};
 ghost use Rattle.hs_expr.specs.Verdict.{verdict};
+ghost use Rattle.hs_types.specs.Metamodel.{IsMeta};
+ghost use Rattle.hs_types.specs.UnitForm.{IsRuleSet};
 ghost use Rattle.hs_rules.specs.Answers.{GivesWhere};
 ghost use Rattle.hs_rules.specs.UnitFaults.{faults_of};
 ghost use Rattle.hs_meaning.specs.Meaning.{IsMeant};
@@ -18,7 +20,8 @@ use std::sync::Arc;
 
 /// The rules and the units that a text means over the metamodel, which the set shares; or the text's
 /// first fault: all rules come before all units, and of each the parts stand in written order. The
-/// limits of rules and units are among the faults.
+/// limits of rules and units are among the faults. Over a sound metamodel the set is well formed, so
+/// nothing has to test it again.
 pub fn check(
     alloc: Global,
     meta: &Arc<Meta>,
@@ -26,6 +29,7 @@ pub fn check(
 ) -> Result<RuleSet, Failure<RuleFault>>
     ensures set { GivesWhere (IsMeant (arc_value meta.now) syntax.now.definitions) result (verdict (faults_of (arc_value meta.now) syntax.now.definitions)) }
     ensures meta { IfOk result (λ set. arc_value set.meta ≡ arc_value meta.now) }
+    ensures formed { IsMeta (arc_value meta.now) → IfOk result (λ set. IsRuleSet (arc_value meta.now) set.rules set.units) }
 {
     hs_rules::check(alloc, meta, syntax)?;
     let set = set_meant(alloc, meta, syntax)?;

@@ -2,6 +2,7 @@
 
 ghost use Rattle.std.specs.Prelude.{◌≡◌, [], ◌∷◌, map, codes, true, false, pos, negsuc};
 ghost use Rattle.hs_expr.specs.declared.Expr.TheVariants as expr;
+ghost use Rattle.hs_expr.specs.declared.Kind.TheVariants as sort;
 ghost use Rattle.hs_expr.specs.declared.Sign.TheVariants.{Greater};
 ghost use Rattle.hs_expr.specs.declared.Value.TheVariants as value;
 ghost use Rattle.hs_text.specs.declared.syntax.Atom.TheVariants as written_atom;
@@ -9,16 +10,19 @@ ghost use Rattle.hs_text.specs.declared.syntax.Bind.TheVariants as written_bind;
 ghost use Rattle.hs_text.specs.declared.syntax.Direction.TheVariants as given;
 ghost use Rattle.hs_types.specs.declared.rule.Direction.TheVariants.{In, Out};
 ghost use Rattle.hs_types.specs.declared.rule.Mark.TheVariants.{Keep, Drop, Make};
-ghost use Rattle.hs_types.specs.declared.rule.ParamKind.TheVariants.{Object};
+ghost use Rattle.hs_types.specs.declared.rule.ParamKind.TheVariants.{Data, Object};
 ghost use Rattle.hs_types.specs.declared.rule.SlotKind.TheVariants.{Attribute};
 ghost use Rattle.hs_types.specs.declared.unit.Atom.TheVariants as atom;
 ghost use Rattle.hs_types.specs.declared.unit.Bind.TheVariants as bind;
 ghost use Rattle.hs_types.specs.declared.unit.Body.TheVariants as body;
 ghost use Rattle.hs_types.specs.declared.unit.Callee.TheVariants as callee;
+ghost use Rattle.hs_types.specs.declared.unit.Count.TheVariants as count;
+ghost use Rattle.hs_types.specs.UnitForm.{AreBinds, BindFits, CountFits, IsRuleSet};
 ghost use Rattle.hs_rules.specs.Samples.{bank, call, give, param, place, take, unit, word};
 ghost use Rattle.hs_meaning.specs.Rules.{rules_meant};
 ghost use Rattle.hs_meaning.specs.Units.{units_meant};
 ghost use Rattle.hs_meaning.specs.Samples.{an_account, an_edge, balance_gets, balance_of, hiring, params_of_hiring};
+ghost use Rattle.hs_meaning.specs.SetSamples.{calling, empty_rule, give_int, give_name, give_text, parameter, params_of_pay, params_of_run, pay, run};
 
 /// A rule with a forbid block, a multi block, a condition and sets.
 pub fn rule_tried()
@@ -54,4 +58,25 @@ pub fn units_tried()
           body = body.Sequential (record { callee = callee.Rule 0; binds = bind.Give (codes "a") (atom.Name (codes "x")) ∷ bind.Give (codes "n") (atom.Value (value.Int (negsuc 4))) ∷ bind.Take (codes "c") (codes "y") ∷ [] } ∷ []);
         }
         ∷ [] }
+{}
+
+/// A set of an empty rule and two units, the first of which calls the second; and sets that are refused:
+/// where the callee is missing, a unit calls itself by way of another, or a rule and a unit have one name.
+pub fn sets_tried()
+    ensures fine { IsRuleSet bank (empty_rule (codes "r") ∷ []) (run ∷ pay ∷ []) }
+    ensures missing { IsRuleSet bank [] (run ∷ []) → ⊥ }
+    ensures circle { IsRuleSet bank [] (calling (codes "u") 1 ∷ calling (codes "v") 0 ∷ []) → ⊥ }
+    ensures one_name { IsRuleSet bank (empty_rule (codes "pay") ∷ []) (pay ∷ []) → ⊥ }
+{}
+
+/// What a call ties, and by which parameter a call can be repeated.
+pub fn binds_tried()
+    ensures not_given { AreBinds bank params_of_run params_of_pay (give_int (codes "sum") 5 ∷ []) → ⊥ }
+    ensures twice { AreBinds bank params_of_run params_of_pay (give_name (codes "into") (codes "a") ∷ give_int (codes "sum") 5 ∷ give_int (codes "sum") 6 ∷ []) → ⊥ }
+    ensures other_kind { BindFits bank params_of_run params_of_pay (give_text (codes "sum") (codes "5")) → ⊥ }
+    ensures other_class { BindFits bank params_of_run params_of_pay (give_name (codes "into") (codes "o")) → ⊥ }
+    ensures into_given { BindFits bank params_of_run params_of_pay (bind.Take (codes "paid") (codes "a")) → ⊥ }
+    ensures count { CountFits params_of_pay (count.Param (codes "sum")) }
+    ensures text_count { CountFits params_of_run (count.Param (codes "word")) → ⊥ }
+    ensures out_count { CountFits (parameter Out (codes "n") (Data sort.Int) ∷ []) (count.Param (codes "n")) → ⊥ }
 {}

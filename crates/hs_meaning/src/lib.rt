@@ -22,5 +22,5 @@ mod tests;
 mod units;
 
 pub use checking::check;
-pub use examples::{rule_tried, slots_tried, units_tried};
-pub use laws::rules_are_formed;
+pub use examples::{binds_tried, rule_tried, sets_tried, slots_tried, units_tried};
+pub use laws::sets_are_formed;
