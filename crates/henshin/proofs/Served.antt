@@ -18,6 +18,7 @@ use Rattle.hs_types.specs.Journal.{meta_of}
 use Rattle.hs_types.specs.Limits.{IsSmallRule}
 use Rattle.hs_types.specs.Pattern.{is_drop, is_left}
 use Rattle.hs_types.specs.RuleForm.{IsRule}
+use Rattle.hs_types.specs.UnitForm.{IsRuleSet}
 use Rattle.hs_bundle.specs.Problems.{text_of as problems_text}
 use Rattle.hs_bundle.specs.Reading.{Contents}
 use Rattle.hs_bundle.specs.Sound.{IsSound}
@@ -28,7 +29,7 @@ use Rattle.hs_input.specs.Refusing.{Refuses}
 use Rattle.hs_input.specs.Sessions.{has_none, is_bare, is_called, is_empty, keeps_all, once, only_adds, only_rule, plain_call, rule_called, sessions_asked}
 use Rattle.hs_apply.proofs.Additions.{few_left}
 use Rattle.hs_finding.specs.FirstMatch.{OnlyAdds}
-use Rattle.hs_meaning.proofs.Apart.{is_text}
+use Rattle.hs_check.proofs.Apart.{is_text}
 use Rattle.hs_session.specs.declared.report.Report.{Report}
 use Rattle.hs_session.specs.Answers.{rule_named}
 use Rattle.hs_session.specs.Runnable.{IsRunnable}
@@ -162,9 +163,9 @@ calls_first rules sessions request only =
     rw (only.is_only, call, is_text only.rule.name only.rule.name refl) refl
 
 -- It can be run.
-pub can_run : (m : Metamodel) (g : Graph) (rules : List Rule) (sessions : List (List Request)) (request : Request) → IsOnly rules sessions request → IsSound m g → All (λ rule. IsRule m rule × IsSmallRule rule) rules → IsSomeAnd (slice_get rules 0) (IsRunnable m g)
-can_run m g rules sessions request only sound formed =
-    let each = subst (λ (rs : List Rule). All (λ rule. IsRule m rule × IsSmallRule rule) rs) only.is_only formed in
+pub can_run : (m : Metamodel) (g : Graph) (rules : List Rule) (units : List RuleUnit) (sessions : List (List Request)) (request : Request) → IsOnly rules sessions request → IsSound m g → IsRuleSet m rules units → IsSomeAnd (slice_get rules 0) (IsRunnable m g)
+can_run m g rules units sessions request only sound set =
+    let each = subst (λ (rs : List Rule). All (λ rule. IsRule m rule × IsSmallRule rule) rs) only.is_only set.are_rules in
     subst (λ (rs : List Rule). IsSomeAnd (slice_get rs 0) (IsRunnable m g)) (sym only.is_only) (runnable m g only.rule sound each.0.0 each.0.1 only.is_bare)
 
 -- ---- bytes that were read

@@ -7,7 +7,7 @@ use Rattle.hs_types.specs.declared.unit.RuleSet.{RuleSet}
 use Rattle.hs_types.specs.Journal.{meta_of}
 use Rattle.hs_bundle.specs.Problems.{text_of as problems_text}
 use Rattle.hs_bundle.specs.Reading.{Contents}
-use Rattle.hs_meaning.specs.Meaning.{IsMeant}
+use Rattle.hs_check.specs.Meaning.{IsMeant}
 use Rattle.hs_input.specs.Input.{IsBuilt}
 use Rattle.hs_session.specs.declared.report.Report.{Report}
 use Rattle.hs_session.specs.SerialReport.{IsSerialReport}

@@ -2,12 +2,10 @@
 
 ghost use Rattle.std.specs.Prelude.{ℕ, ◌≡◌, IfOk, List, Some, slice_get};
 ghost use Rattle.std.specs.Arc.{arc_value};
-ghost use Rattle.std.specs.List.{All};
 ghost use Rattle.std.specs.Option.{option_and_then, option_copied};
 ghost use Rattle.serde_json.specs.Data.{Data};
 ghost use Rattle.hs_types.specs.Journal.{meta_of};
-ghost use Rattle.hs_types.specs.Limits.{IsSmallRule};
-ghost use Rattle.hs_types.specs.RuleForm.{IsRule};
+ghost use Rattle.hs_types.specs.UnitForm.{IsRuleSet};
 ghost use Rattle.hs_bundle.specs.Reading.{Contents};
 ghost use Rattle.hs_bundle.specs.Sound.{IsSound};
 ghost use Rattle.hs_input.specs.Input.{IsInput};
@@ -73,7 +71,7 @@ fn checked(alloc: Global, input: &Input) -> Result<Answer, AllocError>
 fn applied(alloc: Global, input: Input) -> Result<Answer, AllocError>
     requires sound { IsSound (arc_value input.graph.meta) input.graph.graph }
     requires same_model { arc_value input.graph.meta ≡ meta_of input.rules }
-    requires formed { All (λ rule. IsRule (meta_of input.rules) rule × IsSmallRule rule) input.rules.rules }
+    requires formed { IsRuleSet (meta_of input.rules) input.rules.rules input.rules.units }
     requires asked { (whole : Data) × (sessions_asked input.rules.rules input.rules.units whole ≡ Some input.sessions) }
     ensures { (bytes : List ℕ) (held : Contents) → IsInput bytes held input → IfOk result (λ answer. Gives Command.Apply bytes answer.report answer.text) }
 {
@@ -100,7 +98,7 @@ fn ran(
 ) -> Result<Report, AllocError>
     requires sound { IsSound (arc_value graph.meta) graph.graph }
     requires same_model { arc_value graph.meta ≡ meta_of rules.now }
-    requires formed { All (λ rule. IsRule (meta_of rules.now) rule × IsSmallRule rule) rules.now.rules }
+    requires formed { IsRuleSet (meta_of rules.now) rules.now.rules rules.now.units }
     requires asked { (whole : Data) × (sessions_asked rules.now.rules rules.now.units whole ≡ Some sessions.now) }
     ensures { IfOk result (IsSerialReport rules.now graph.graph sessions.now) }
 {

@@ -12,8 +12,8 @@ use Rattle.hs_bundle.specs.declared.fault.BundleFault.{BundleFault}
 use Rattle.hs_bundle.specs.Reading.{Contents, IsAnswer, contents_of}
 use Rattle.hs_rules.specs.declared.fault.RuleFault.{RuleFault}
 use Rattle.hs_rules.specs.UnitFaults.{faults_of}
-use Rattle.hs_meaning.specs.Rules.{rules_meant}
-use Rattle.hs_meaning.specs.Units.{units_meant}
+use Rattle.hs_check.specs.Rules.{rules_meant}
+use Rattle.hs_check.specs.Units.{units_meant}
 use Rattle.hs_input.specs.declared.refusal.Refusal.{Refusal}
 use Rattle.hs_input.specs.declared.refusal.Refusal.TheVariants.{NoBundle, BadText, BadRule, NotBuilt}
 use Rattle.hs_input.specs.Input.{IsBuilt, IsRead, asked}

@@ -9,9 +9,9 @@ use Rattle.hs_types.specs.declared.request.Request.{Request}
 use Rattle.hs_types.specs.Journal.{meta_of}
 use Rattle.hs_bundle.specs.Reading.{Contents, IsAnswer}
 use Rattle.hs_rules.specs.UnitFaults.{faults_of}
-use Rattle.hs_meaning.specs.Meaning.{IsMeant}
-use Rattle.hs_meaning.specs.Rules.{rules_meant}
-use Rattle.hs_meaning.specs.Units.{units_meant}
+use Rattle.hs_check.specs.Meaning.{IsMeant}
+use Rattle.hs_check.specs.Rules.{rules_meant}
+use Rattle.hs_check.specs.Units.{units_meant}
 use Rattle.hs_input.specs.declared.reading.Input.{Input}
 use Rattle.hs_input.specs.Sessions.{sessions_asked}
 

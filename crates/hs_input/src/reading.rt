@@ -1,18 +1,16 @@
 ghost use Rattle.std.specs.Prelude.{◌≡◌, ℕ, List, IfErr, IfOk, IfSome, Ok, Some, None};
 ghost use Rattle.std.specs.Arc.{arc_value};
-ghost use Rattle.std.specs.List.{All};
 ghost use Rattle.std.specs.Str.{chars};
 ghost use Rattle.serde_json.specs.View.{view};
 ghost use Rattle.hs_expr.specs.Verdict.{verdict};
 ghost use Rattle.hs_text.specs.Parsing.{IsSyntaxOf};
 ghost use Rattle.hs_types.specs.Journal.{meta_of};
-ghost use Rattle.hs_types.specs.Limits.{IsSmallRule};
 ghost use Rattle.hs_types.specs.Metamodel.{IsMeta};
-ghost use Rattle.hs_types.specs.RuleForm.{IsRule};
+ghost use Rattle.hs_types.specs.UnitForm.{IsRuleSet};
 ghost use Rattle.hs_bundle.specs.Reading.{Contents, IsAnswer, contents};
 ghost use Rattle.hs_bundle.specs.Sound.{IsSound};
 ghost use Rattle.hs_rules.specs.UnitFaults.{faults_of};
-ghost use Rattle.hs_meaning.specs.Meaning.{IsMeant};
+ghost use Rattle.hs_check.specs.Meaning.{IsMeant};
 ghost use Rattle.hs_input.specs.Input.{IsInput, IsRead};
 ghost use Rattle.hs_input.specs.Refusing.{Tells};
 ghost use Rattle.hs_input.specs.Sessions as asking;
@@ -20,8 +18,8 @@ ghost use Rattle.hs_input.specs.Sessions as asking;
 use crate::refusal::Refusal;
 use crate::sessions::sessions_asked;
 use hs_bundle::{Bundle, read_bundle};
+use hs_check::check;
 use hs_expr::{Failure, List};
-use hs_meaning::check;
 use hs_text::{Syntax, TextFault, parse};
 use hs_types::{ListGraph, Meta, Request, RuleSet};
 use serde_json::Value;
@@ -45,7 +43,7 @@ pub struct Input {
 pub fn read_input(alloc: Global, bytes: &[u8]) -> Result<Input, Failure<Refusal>>
     ensures read { IfOk result (λ input. (held : Contents) × IsInput bytes.now held input) }
     ensures sound { IfOk result (λ input. IsSound (arc_value input.graph.meta) input.graph.graph) }
-    ensures formed { IfOk result (λ input. All (λ rule. IsRule (meta_of input.rules) rule × IsSmallRule rule) input.rules.rules) }
+    ensures formed { IfOk result (λ input. IsRuleSet (meta_of input.rules) input.rules.rules input.rules.units) }
     ensures refused { Tells bytes.now result }
 {
     let Bundle {
@@ -94,7 +92,7 @@ fn rules_of(alloc: Global, meta: &Arc<Meta>, syntax: &Syntax) -> Result<RuleSet,
     ensures right { IfOk result (λ set. verdict (faults_of (arc_value meta.now) syntax.now.definitions) ≡ Ok tt) }
     ensures meant { IfOk result (IsMeant (arc_value meta.now) syntax.now.definitions) }
     ensures model { IfOk result (λ set. meta_of set ≡ arc_value meta.now) }
-    ensures formed { IsMeta (arc_value meta.now) → IfOk result (λ set. All (λ rule. IsRule (arc_value meta.now) rule × IsSmallRule rule) set.rules) }
+    ensures formed { IsMeta (arc_value meta.now) → IfOk result (λ set. IsRuleSet (arc_value meta.now) set.rules set.units) }
     ensures refused { (bytes : List ℕ) (held : Contents) → held.meta ≡ arc_value meta.now → IsAnswer bytes (Ok held) → IsSyntaxOf (chars held.rules) syntax.now → Tells bytes result }
 {
     match check(alloc, meta, syntax) {

@@ -103,14 +103,14 @@ abbrev pub units_called : RuleUnit → List ℕ
 units_called unit = filter_map (λ call. unit_in call.callee) (calls_of unit.body)
 
 -- No unit calls itself, by one step or more.
-abbrev pub NoneCircles : List RuleUnit → Type 0
-NoneCircles units = (place : ℕ) → IsBelow (map units_called units) place place → ⊥
+abbrev pub AreAcyclic : List RuleUnit → Type 0
+AreAcyclic units = (place : ℕ) → IsBelow (map units_called units) place place → ⊥
 
 -- The rules and units of a set over a metamodel. At most 64 of each, no two of one name.
 pub record IsRuleSet (m : Metamodel) (rules : List Rule) (units : List RuleUnit) : Type 0 where
   pub are_rules : All (λ rule. IsRule m rule × IsSmallRule rule) rules
   pub are_units : All (λ unit. IsUnit m rules units unit × IsSmallUnit unit) units
   pub names_differ : Differ (map (λ rule. rule.name) rules ++ map (λ unit. unit.name) units)
-  pub none_circles : NoneCircles units
+  pub acyclic : AreAcyclic units
   pub few_rules : length rules ≤ 64
   pub few_units : length units ≤ 64

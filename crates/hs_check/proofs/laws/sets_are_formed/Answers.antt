@@ -1,0 +1,5 @@
+use Rattle.hs_check.proofs.FormedSet.{sets_formed}
+use Rattle.hs_check.proofs.laws.sets_are_formed.Goals as goal
+
+pub returns : goal.returns
+returns c = sets_formed

@@ -1,0 +1,50 @@
+//! A text, checked and understood.
+
+ghost use Rattle.std.specs.Prelude.{◌≡◌, IfOk};
+ghost use Rattle.std.specs.Arc.{arc_value};
+ghost use Rattle.hs_expr.specs.Verdict.{verdict};
+ghost use Rattle.hs_types.specs.Metamodel.{IsMeta};
+ghost use Rattle.hs_types.specs.UnitForm.{IsRuleSet};
+ghost use Rattle.hs_rules.specs.Answers.{GivesWhere};
+ghost use Rattle.hs_rules.specs.UnitFaults.{faults_of};
+ghost use Rattle.hs_check.specs.Meaning.{IsMeant};
+
+use crate::rules::rules_meant;
+use crate::units::units_meant;
+use hs_expr::Failure;
+use hs_rules::RuleFault;
+use hs_text::Syntax;
+use hs_types::{Meta, RuleSet};
+use std::alloc::{AllocError, Global};
+use std::sync::Arc;
+
+/// The rules and the units that a text means over the metamodel, which the set shares; or the text's
+/// first fault: all rules come before all units, and of each the parts stand in written order. The
+/// limits of rules and units are among the faults. Over a sound metamodel the set is well formed, so
+/// nothing has to test it again.
+pub fn check(
+    alloc: Global,
+    meta: &Arc<Meta>,
+    syntax: &Syntax,
+) -> Result<RuleSet, Failure<RuleFault>>
+    ensures set { GivesWhere (IsMeant (arc_value meta.now) syntax.now.definitions) result (verdict (faults_of (arc_value meta.now) syntax.now.definitions)) }
+    ensures meta { IfOk result (λ set. arc_value set.meta ≡ arc_value meta.now) }
+    ensures formed { IsMeta (arc_value meta.now) → IfOk result (λ set. IsRuleSet (arc_value meta.now) set.rules set.units) }
+{
+    hs_rules::check(alloc, meta, syntax)?;
+    let set = set_meant(alloc, meta, syntax)?;
+    Ok(set)
+}
+
+#[tactic(auto, using(hs_rules::proofs::Following::all_from))]
+fn set_meant(alloc: Global, meta: &Arc<Meta>, syntax: &Syntax) -> Result<RuleSet, AllocError>
+    ensures set { IfOk result (IsMeant (arc_value meta.now) syntax.now.definitions) }
+    ensures meta { IfOk result (λ set. arc_value set.meta ≡ arc_value meta.now) }
+{
+    let definitions = syntax.definitions.as_slice();
+    Ok(RuleSet {
+        meta: meta.clone()?,
+        rules: rules_meant(alloc, meta, definitions)?,
+        units: units_meant(alloc, meta, definitions)?,
+    })
+}

@@ -1,0 +1,169 @@
+//! What nodes and edges mean, part by part of a rule.
+
+ghost use Rattle.std.specs.Prelude.{◌≡◌, ◌++◌, ◌∷◌, [], IfOk, OnOk};
+ghost use Rattle.hs_check.specs.Elements as spec;
+
+use crate::open_nodes::OpenNodes;
+use crate::parameters::class_meant;
+use hs_expr::List;
+use hs_rules::statements::{Saying, Statement};
+use hs_rules::{DeclaredNode, Home, feature_named, same_home};
+use hs_text::Mark as WrittenMark;
+use hs_types::{FeatureNo, Mark, Meta, PatternEdge, PatternNode};
+use std::alloc::{AllocError, Global};
+
+fn mark_meant(mark: WrittenMark) -> Mark
+    ensures { result ≡ spec.mark_meant mark }
+{
+    match mark {
+        WrittenMark::Preserve => Mark::Keep,
+        WrittenMark::Create => Mark::Make,
+        WrittenMark::Delete => Mark::Drop,
+    }
+}
+
+fn node_meant(meta: &Meta, node: &DeclaredNode) -> Result<PatternNode, AllocError>
+    ensures { IfOk result (λ meant. meant ≡ spec.node_meant meta.now node.now) }
+{
+    Ok(PatternNode {
+        name: node.name.text.clone()?,
+        class: class_meant(meta, &node.class.text),
+        mark: mark_meant(node.mark),
+    })
+}
+
+/// Adds the node, if this part of the rule declares it.
+fn add_node(
+    meta: &Meta,
+    nodes: &mut List<PatternNode>,
+    node: &DeclaredNode,
+    part: Home,
+) -> Result<(), AllocError>
+    ensures { OnOk result (nodes.new ≡ nodes.old ++ spec.nodes_in meta.now (node.now ∷ []) part) }
+{
+    if same_home(part, node.home) {
+        nodes.push(node_meant(meta, node)?)?;
+    }
+    Ok(())
+}
+
+/// The nodes that one part of the rule declares.
+pub fn nodes_in(
+    alloc: Global,
+    meta: &Meta,
+    declared: &[DeclaredNode],
+    part: Home,
+) -> Result<List<PatternNode>, AllocError>
+    ensures { IfOk result (λ nodes. nodes ≡ spec.nodes_in meta.now declared.now part) }
+{
+    let mut nodes = List::new(alloc);
+    for node in declared {
+        add_node(meta, &mut nodes, node, part)?;
+    }
+    Ok(nodes)
+}
+
+/// The number of the node of this name.
+pub fn node_number(nodes: &OpenNodes<'_>, name: &str) -> u16
+    ensures { result ≡ spec.node_number nodes.now name.now }
+{
+    nodes.find(name).unwrap_or(0)
+}
+
+/// The feature of this name in the class of the node of this number.
+pub fn feature_found(
+    meta: &Meta,
+    nodes: &OpenNodes<'_>,
+    number: u16,
+    name: &str,
+) -> Option<FeatureNo>
+    ensures { result ≡ spec.feature_found meta.now nodes.now number name.now }
+{
+    let node = nodes.get(number)?;
+    feature_named(meta, node.class, name)
+}
+
+pub fn feature_number(meta: &Meta, nodes: &OpenNodes<'_>, number: u16, name: &str) -> FeatureNo
+    ensures { result ≡ spec.feature_number meta.now nodes.now number name.now }
+{
+    feature_found(meta, nodes, number, name).unwrap_or(0)
+}
+
+fn edge_meant(
+    meta: &Meta,
+    nodes: &OpenNodes<'_>,
+    mark: Mark,
+    source: &str,
+    target: &str,
+    reference: &str,
+) -> PatternEdge
+    ensures { result ≡ spec.edge_meant meta.now nodes.now mark source.now target.now reference.now }
+{
+    let from = node_number(nodes, source);
+    PatternEdge {
+        source: from,
+        reference: feature_number(meta, nodes, from, reference),
+        target: node_number(nodes, target),
+        mark,
+    }
+}
+
+/// The edge that the statement means, if it is an edge of this part of the rule.
+fn edge_in(
+    meta: &Meta,
+    nodes: &OpenNodes<'_>,
+    part: Home,
+    statement: &Statement<'_>,
+) -> Option<PatternEdge>
+    ensures { result ≡ spec.edge_in meta.now nodes.now part statement.now }
+{
+    match statement.saying {
+        Saying::Edge {
+            mark,
+            source,
+            target,
+            reference,
+        } if same_home(part, statement.home) => Some(edge_meant(
+            meta,
+            nodes,
+            mark_meant(mark),
+            source.text.as_str(),
+            target.text.as_str(),
+            reference.text.as_str(),
+        )),
+        _ => None,
+    }
+}
+
+/// Adds the edge that the statement means, if it is an edge of this part of the rule.
+fn add_edge(
+    meta: &Meta,
+    nodes: &OpenNodes<'_>,
+    edges: &mut List<PatternEdge>,
+    statement: &Statement<'_>,
+    part: Home,
+) -> Result<(), AllocError>
+    ensures { OnOk result (edges.new ≡ edges.old ++ spec.edges_in meta.now nodes.now (statement.now ∷ []) part) }
+{
+    if let Some(edge) = edge_in(meta, nodes, part, statement) {
+        edges.push(edge)?;
+    }
+    Ok(())
+}
+
+/// The edges of one part of the rule, which may name these nodes.
+pub fn edges_in(
+    alloc: Global,
+    meta: &Meta,
+    nodes: &OpenNodes<'_>,
+    statements: &[Statement<'_>],
+    part: Home,
+) -> Result<List<PatternEdge>, AllocError>
+    ensures { IfOk result (λ edges. edges ≡ spec.edges_in meta.now nodes.now statements.now part) }
+{
+    let mut edges = List::new(alloc);
+    for statement in statements {
+        add_edge(meta, nodes, &mut edges, statement, part)?;
+    }
+    Ok(edges)
+}

@@ -1,5 +1,0 @@
-use Rattle.hs_meaning.proofs.FormedSet.{sets_formed}
-use Rattle.hs_meaning.proofs.laws.sets_are_formed.Goals as goal
-
-pub returns : goal.returns
-returns c = sets_formed
