@@ -345,8 +345,9 @@ fn bounds_leave_room(rt: HostRuntime) {
             class: 0,
             number: 0,
         };
+        let is_right = answer.is_ok();
         let told = is_told(answer, place, ModelFaultKind::BadBounds);
-        assert!(rt; if fits { answer.is_ok() } else { told }, "{lower} {upper}");
+        assert!(rt; if fits { is_right } else { told }, "{lower} {upper}");
     }
 }
 
