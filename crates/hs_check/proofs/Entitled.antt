@@ -39,7 +39,7 @@ use Rattle.hs_check.proofs.Homes.{Unlike, all_homes, homes_unlike}
 use Rattle.hs_check.proofs.Joined.{homes_same}
 use Rattle.hs_check.proofs.Opening.{called, found_in, kernel_home, node_in, node_made, nodes_in-picked}
 use Rattle.hs_check.proofs.Parted.{kernel_of}
-use Rattle.hs_check.proofs.Picked.{All-at, All-filter_map, All-from, EachPair-append, EachPair-filter_map, EachPair-from, EachPair-map}
+use Rattle.hs_check.proofs.Picked.{All-at, All-filter_map, All-from, EachPair-append, EachPair-filter_map, EachPair-map}
 use Rattle.hs_check.proofs.Silent.{Clean, empty_parts, no_test, yes_test}
 
 -- ---- parameters

@@ -1,5 +1,5 @@
 -- A rule without faults means a rule over the metamodel, within the limits.
-use Rattle.std.proofs.Common.{◌≡◌, List, [], map, true}
+use Rattle.std.proofs.Common.{◌≡◌, List, map, true}
 use Rattle.std.proofs.lemmas.List.Elements.{All-map, All-weaker}
 use Rattle.std.specs.List.{All}
 use Rattle.hs_expr.specs.Verdict.{each}

@@ -1,5 +1,5 @@
 -- A text without faults means a rule set over the metamodel.
-use Rattle.std.proofs.Common.{ℕ, suc, ◌≤◌, ◌≡◌, ◌++◌, List, [], ◌∷◌, true, false, length, map, Option, Some, None, Ok, IsSomeAnd, slice_get, inl, inr, refl, ap, sym, ◌∙◌, subst}
+use Rattle.std.proofs.Common.{ℕ, suc, ◌≤◌, ◌≡◌, ◌++◌, List, [], ◌∷◌, true, map, Option, Some, None, Ok, IsSomeAnd, slice_get, inl, inr, refl, ap, sym, ◌∙◌, subst}
 use Rattle.std.proofs.lemmas.Bool.{false≢true}
 use Rattle.std.proofs.lemmas.List.{length-map}
 use Rattle.std.proofs.lemmas.List.Elements.{All-map, All-weaker}
@@ -51,6 +51,7 @@ names_differ m definitions clean =
 
 -- ---- cycles
 
+-- Two functions that agree on each item give the same.
 map_alike : {A B : Type 0} (f g : A → B) (xs : List A) → ((k : ℕ) (x : A) → slice_get xs k ≡ Some x → f x ≡ g x) → map f xs ≡ map g xs
 map_alike f g [] h = refl
 map_alike {A} {B} f g (x ∷ xs) h = ap (λ (y : B). y ∷ map f xs) (h 0 x refl) ∙ ap (λ (ys : List B). g x ∷ ys) (map_alike f g xs (λ k y at. h (suc k) y at))
@@ -113,7 +114,7 @@ no_faults : {F : Type 0} (faults : List F) → verdict faults ≡ Ok tt → faul
 no_faults [] e = refl
 no_faults (fault ∷ faults) e = cc
 
--- What a text means that is checked.
+-- The rules and the units that a text means are a set, where the check tells no fault.
 pub checked_formed : (m : Metamodel) (definitions : List Definition) (rules : List Rule) (units : List RuleUnit) → verdict (faults_of m definitions) ≡ Ok tt → rules ≡ rules_meant m definitions → units ≡ units_meant m definitions → IsMeta m → form.IsRuleSet m rules units
 checked_formed m definitions rules units none rules_are units_are is =
     rw (rules_are, units_are) (sets_formed m definitions is (no_faults (faults_of m definitions) none))

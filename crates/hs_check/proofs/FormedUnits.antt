@@ -1,6 +1,6 @@
 -- A unit of a text without faults means a unit among what the text means, within the limits.
-use Rattle.std.proofs.Common.{ℕ, ◌≤◌, ◌≡◌, List, [], ◌∷◌, Bool, true, false, length, map, Option, Some, None, IsSomeAnd, is_some, slice_get, refl, ap, sym, ◌∙◌, subst}
-use Rattle.std.proofs.lemmas.Bool.{and_parts, false≢true}
+use Rattle.std.proofs.Common.{◌≤◌, ◌≡◌, List, [], ◌∷◌, true, false, length, Option, Some, None, IsSomeAnd, is_some, refl, ap, sym, ◌∙◌, subst}
+use Rattle.std.proofs.lemmas.Bool.{and_parts}
 use Rattle.std.proofs.lemmas.List.{length-map}
 use Rattle.std.proofs.lemmas.List.Elements.{All-map, All-weaker}
 use Rattle.std.specs.List.{All}
@@ -21,7 +21,6 @@ use Rattle.hs_types.specs.declared.rule.ParamKind.TheVariants.{Data}
 use Rattle.hs_types.specs.declared.unit.Call.{Call}
 use Rattle.hs_types.specs.Limits.{IsSmallUnit}
 use Rattle.hs_types.specs.UnitForm as form
-use Rattle.hs_rules.specs.declared.fault.RuleFault.{RuleFault}
 use Rattle.hs_rules.specs.SecondPass.{is_out}
 use Rattle.hs_rules.specs.UnitFaults.{argument_faults, call_faults, callee_params, calls_of, count_faults, is_count, is_data, is_in, param_named, rules_of, units_of}
 use Rattle.hs_check.specs.Parameters.{param_meant, params_meant}
@@ -37,9 +36,10 @@ use Rattle.hs_check.proofs.Suited.{are_binds, data_is, is_not, named_meant, para
 
 -- What a call without faults names is there, and its arguments have no faults.
 pub record RightCall (m : Metamodel) (definitions : List Definition) (own : List WrittenParam) (call : WrittenCall) : Type 0 where
-  pub callee : Found m definitions call.callee.text
+  pub callee : Found m definitions call
   pub arguments : argument_faults m own callee.params call ≡ []
 
+-- Where a look-up that finds nothing is a fault, no fault says that something is found, and that it has none.
 some_callee : {F : Type 0} (fault : F) (finds : List WrittenParam → List F) (o : Option (List WrittenParam)) → option_map_or finds o (fault ∷ []) ≡ [] → is_some o ≡ true
 some_callee fault finds None e = cc
 some_callee fault finds (Some params) e = refl
@@ -49,7 +49,7 @@ of_callee none finds o params is e = sym (ap (λ (p : Option (List WrittenParam)
 
 pub right_call : (m : Metamodel) (definitions : List Definition) → CleanText m definitions → (own : List WrittenParam) (call : WrittenCall) → call_faults m (rules_of definitions) (units_of definitions) own call ≡ [] → RightCall m definitions own call
 right_call m definitions clean own call e =
-    let there = found m definitions clean call.callee.text (some_callee _ (λ params. argument_faults m own params call) (callee_params (rules_of definitions) (units_of definitions) call.callee.text) e) in
+    let there = found m definitions clean call (some_callee _ (λ params. argument_faults m own params call) (callee_params (rules_of definitions) (units_of definitions) call.callee.text) e) in
     record {
       callee = there;
       arguments = of_callee _ (λ params. argument_faults m own params call) (callee_params (rules_of definitions) (units_of definitions) call.callee.text) there.params there.named e;

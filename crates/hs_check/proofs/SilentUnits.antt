@@ -1,5 +1,5 @@
 -- What is so of a unit in which no fault is found, and of a text without faults.
-use Rattle.std.proofs.Common.{ℕ, zero, suc, ◌≤◌, ◌≡◌, ◌++◌, ◌&&◌, List, [], ◌∷◌, true, false, not, is_some, length, map, nat_le, take, Option, Some, None, slice_get, refl, ap, sym, ◌∙◌}
+use Rattle.std.proofs.Common.{ℕ, zero, suc, ◌≤◌, ◌≡◌, ◌++◌, List, [], ◌∷◌, true, false, not, is_some, length, map, nat_le, take, Option, Some, None, slice_get, refl, ap, sym, ◌∙◌}
 use Rattle.std.proofs.lemmas.Bool.{and_parts, leb-true}
 use Rattle.std.proofs.lemmas.List.{append-nil, append_assoc}
 use Rattle.std.proofs.lemmas.List.Elements.{All-cons, All-nil}

@@ -1,6 +1,6 @@
 //! A text, checked and understood.
 
-ghost use Rattle.std.specs.Prelude.{◌≡◌, IfOk};
+ghost use Rattle.std.specs.Prelude.{◌≡◌, IfOk, Ok};
 ghost use Rattle.std.specs.Arc.{arc_value};
 ghost use Rattle.hs_expr.specs.Verdict.{verdict};
 ghost use Rattle.hs_types.specs.Metamodel.{IsMeta};
@@ -40,6 +40,8 @@ pub fn check(
 fn set_meant(alloc: Global, meta: &Arc<Meta>, syntax: &Syntax) -> Result<RuleSet, AllocError>
     ensures set { IfOk result (IsMeant (arc_value meta.now) syntax.now.definitions) }
     ensures meta { IfOk result (λ set. arc_value set.meta ≡ arc_value meta.now) }
+    ensures formed { verdict (faults_of (arc_value meta.now) syntax.now.definitions) ≡ Ok tt → IsMeta (arc_value meta.now)
+        → IfOk result (λ set. IsRuleSet (arc_value meta.now) set.rules set.units) }
 {
     let definitions = syntax.definitions.as_slice();
     Ok(RuleSet {

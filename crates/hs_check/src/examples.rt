@@ -60,8 +60,8 @@ pub fn units_tried()
         ∷ [] }
 {}
 
-/// A set of an empty rule and two units, the first of which calls the second; and sets that are refused:
-/// where the callee is missing, a unit calls itself by way of another, or a rule and a unit have one name.
+/// A set of an empty rule and two units, the first of which calls the second; and sets that are none:
+/// what is called is missing, a unit calls itself by way of another, a rule and a unit have one name.
 pub fn sets_tried()
     ensures fine { IsRuleSet bank (empty_rule (codes "r") ∷ []) (run ∷ pay ∷ []) }
     ensures missing { IsRuleSet bank [] (run ∷ []) → ⊥ }
@@ -69,7 +69,7 @@ pub fn sets_tried()
     ensures one_name { IsRuleSet bank (empty_rule (codes "pay") ∷ []) (pay ∷ []) → ⊥ }
 {}
 
-/// What a call ties, and by which parameter a call can be repeated.
+/// Calls that tie parameters wrongly, and parameters that can be counts and that can't.
 pub fn binds_tried()
     ensures not_given { AreBinds bank params_of_run params_of_pay (give_int (codes "sum") 5 ∷ []) → ⊥ }
     ensures twice { AreBinds bank params_of_run params_of_pay (give_name (codes "into") (codes "a") ∷ give_int (codes "sum") 5 ∷ give_int (codes "sum") 6 ∷ []) → ⊥ }

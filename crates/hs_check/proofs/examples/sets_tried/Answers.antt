@@ -1,4 +1,4 @@
-use Rattle.std.proofs.Common.{ℕ, zero, suc, ◌≡◌, [], ◌∷◌, false, refl, rules, lit<, lit≤, codes}
+use Rattle.std.proofs.Common.{ℕ, zero, suc, [], ◌∷◌, false, refl, rules, lit<, lit≤, codes}
 use Rattle.std.proofs.lemmas.Bool.{both_ways}
 use Rattle.std.proofs.lemmas.List.Elements.{All-cons, All-nil}
 use Rattle.hs_types.specs.declared.rule.Rule.{Rule}
