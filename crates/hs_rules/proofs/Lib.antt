@@ -5,3 +5,4 @@ pub mod Following
 pub mod Last
 pub mod Slots
 pub mod Whole
+pub mod Signatures

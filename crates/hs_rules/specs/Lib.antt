@@ -16,5 +16,6 @@ pub mod Faults
 pub mod SeenRules
 pub mod UnitFaults
 pub mod Signed
+pub mod Callable
 pub mod SeenUnits
 pub mod Samples

@@ -10,7 +10,6 @@ ghost use Rattle.hs_rules.specs.Answers.{GivesWhere};
 ghost use Rattle.hs_rules.specs.Bound.{bound_name};
 ghost use Rattle.hs_rules.specs.Named.{Knows};
 ghost use Rattle.hs_rules.specs.Places.{unit_fault_at};
-ghost use Rattle.hs_rules.specs.Signed.{signed};
 ghost use Rattle.hs_rules.specs.UnitFaults as spec;
 
 use crate::arguments::{bind_fits, is_data, is_in};
@@ -28,24 +27,23 @@ use std::alloc::Global;
 #[tactic(auto, using(hs_expr::proofs::Verdicts::each_steps, crate::proofs::Failing::fails))]
 pub fn body_right(
     alloc: Global,
-    meta: &Meta,
-    callees: &Callees<'_>,
+    callees: &Callees<'_, '_>,
     own: &ParamMap<'_>,
     body: &Body,
 ) -> Result<(), Failure<RuleFault>>
-    ensures { Gives result (verdict (spec.body_faults (spec.call_faults meta.now (spec.rules_of callees.now) (spec.units_of callees.now) own.now) own.now body.now)) }
+    ensures { Gives result (verdict (spec.body_faults (spec.call_faults callees.now.meta (spec.rules_of callees.now.definitions) (spec.units_of callees.now.definitions) own.now) own.now body.now)) }
 {
     match body {
-        Body::Sequential(calls) => calls_right(alloc, meta, callees, own, calls.as_slice()),
-        Body::Independent(calls) => calls_right(alloc, meta, callees, own, calls.as_slice()),
-        Body::Priority(calls) => calls_right(alloc, meta, callees, own, calls.as_slice()),
+        Body::Sequential(calls) => calls_right(alloc, callees, own, calls.as_slice()),
+        Body::Independent(calls) => calls_right(alloc, callees, own, calls.as_slice()),
+        Body::Priority(calls) => calls_right(alloc, callees, own, calls.as_slice()),
         Body::Conditional {
             test,
             then,
             otherwise,
-        } => choice_right(alloc, meta, callees, own, test, then, otherwise),
-        Body::Loop(call) => call_right(alloc, meta, callees, own, call),
-        Body::Iterated { count, call } => counted_right(alloc, meta, callees, own, count, call),
+        } => choice_right(alloc, callees, own, test, then, otherwise),
+        Body::Loop(call) => call_right(alloc, callees, own, call),
+        Body::Iterated { count, call } => counted_right(alloc, callees, own, count, call),
     }
 }
 
@@ -53,15 +51,14 @@ pub fn body_right(
 #[tactic(auto, using(hs_expr::proofs::Verdicts::each_steps, crate::proofs::Failing::fails))]
 fn calls_right(
     alloc: Global,
-    meta: &Meta,
-    callees: &Callees<'_>,
+    callees: &Callees<'_, '_>,
     own: &ParamMap<'_>,
     calls: &[Call],
 ) -> Result<(), Failure<RuleFault>>
-    ensures { Gives result (verdict (each (λ i call. spec.call_faults meta.now (spec.rules_of callees.now) (spec.units_of callees.now) own.now call) calls.now)) }
+    ensures { Gives result (verdict (each (λ i call. spec.call_faults callees.now.meta (spec.rules_of callees.now.definitions) (spec.units_of callees.now.definitions) own.now call) calls.now)) }
 {
     for call in calls {
-        call_right(alloc, meta, callees, own, call)?;
+        call_right(alloc, callees, own, call)?;
     }
     Ok(())
 }
@@ -70,19 +67,18 @@ fn calls_right(
 #[tactic(auto, using(hs_expr::proofs::Verdicts::each_steps, crate::proofs::Failing::fails))]
 fn choice_right(
     alloc: Global,
-    meta: &Meta,
-    callees: &Callees<'_>,
+    callees: &Callees<'_, '_>,
     own: &ParamMap<'_>,
     test: &Call,
     then: &Call,
     otherwise: &Option<Call>,
 ) -> Result<(), Failure<RuleFault>>
-    ensures { Gives result (verdict (spec.choice_faults (spec.call_faults meta.now (spec.rules_of callees.now) (spec.units_of callees.now) own.now) test.now then.now otherwise.now)) }
+    ensures { Gives result (verdict (spec.choice_faults (spec.call_faults callees.now.meta (spec.rules_of callees.now.definitions) (spec.units_of callees.now.definitions) own.now) test.now then.now otherwise.now)) }
 {
-    call_right(alloc, meta, callees, own, test)?;
-    call_right(alloc, meta, callees, own, then)?;
+    call_right(alloc, callees, own, test)?;
+    call_right(alloc, callees, own, then)?;
     match otherwise {
-        Some(call) => call_right(alloc, meta, callees, own, call),
+        Some(call) => call_right(alloc, callees, own, call),
         None => Ok(()),
     }
 }
@@ -91,15 +87,14 @@ fn choice_right(
 #[tactic(auto, using(hs_expr::proofs::Verdicts::each_steps, crate::proofs::Failing::fails))]
 fn counted_right(
     alloc: Global,
-    meta: &Meta,
-    callees: &Callees<'_>,
+    callees: &Callees<'_, '_>,
     own: &ParamMap<'_>,
     count: &Count,
     call: &Call,
 ) -> Result<(), Failure<RuleFault>>
-    ensures { Gives result (verdict (spec.call_faults meta.now (spec.rules_of callees.now) (spec.units_of callees.now) own.now call.now ++ spec.count_faults own.now count.now)) }
+    ensures { Gives result (verdict (spec.call_faults callees.now.meta (spec.rules_of callees.now.definitions) (spec.units_of callees.now.definitions) own.now call.now ++ spec.count_faults own.now count.now)) }
 {
-    call_right(alloc, meta, callees, own, call)?;
+    call_right(alloc, callees, own, call)?;
     count_right(own, count)
 }
 
@@ -134,19 +129,17 @@ fn is_count(param: &Param) -> bool
 /// The first fault of a call.
 fn call_right(
     alloc: Global,
-    meta: &Meta,
-    callees: &Callees<'_>,
+    callees: &Callees<'_, '_>,
     own: &ParamMap<'_>,
     call: &Call,
 ) -> Result<(), Failure<RuleFault>>
-    ensures { Gives result (verdict (spec.call_faults meta.now (spec.rules_of callees.now) (spec.units_of callees.now) own.now call.now)) }
+    ensures { Gives result (verdict (spec.call_faults callees.now.meta (spec.rules_of callees.now.definitions) (spec.units_of callees.now.definitions) own.now call.now)) }
 {
-    let params = needed(
-        callees.params_of(call.callee.text.as_str()),
+    let signature = needed(
+        callees.signature_of(call.callee.text.as_str()),
         unit_fault_at(call.callee.span, RuleFaultKind::UnknownUnit),
     )?;
-    let signature = Signature::new(alloc, meta, params)?;
-    arguments_right(alloc, meta, own, &signature, call)
+    arguments_right(alloc, callees.meta(), own, signature, call)
 }
 
 /// The first fault of a call of what has this signature.
@@ -158,7 +151,7 @@ fn arguments_right(
     signature: &Signature<'_>,
     call: &Call,
 ) -> Result<(), Failure<RuleFault>>
-    requires signed { signature.now ≡ signed meta.now signature.now.params }
+    requires kinds { signature.now.have_kinds ≡ spec.are_kinds meta.now signature.now.params }
     ensures { Gives result (verdict (spec.argument_faults meta.now own.now signature.now.params call.now)) }
 {
     let bound = binds_right(alloc, meta, own, signature.params(), call)?;
@@ -169,6 +162,8 @@ fn arguments_right(
     )
 }
 
+/// Whether what is called has all that it needs. Where it has, each parameter that needs something has
+/// a bind of its own, so a call that is served costs no more than its binds.
 fn is_served(signature: &Signature<'_>, binds: &BindMap<'_>) -> bool
     ensures { result ≡ (signature.now.have_kinds && list_all (spec.is_bound binds.now) (filter spec.is_in (spec.meant_params signature.now.params))) }
 {

@@ -3,12 +3,14 @@
 ghost use Rattle.std.specs.Prelude.{◌≡◌, ◌++◌};
 ghost use Rattle.hs_expr.specs.Steps.{Gives};
 ghost use Rattle.hs_expr.specs.Verdict.{verdict};
+ghost use Rattle.hs_rules.specs.Signed.{all_signed};
 ghost use Rattle.hs_rules.specs.UnitFaults as spec;
 
 use crate::callees::Callees;
 use crate::cycles::cycles_right;
 use crate::fault::RuleFault;
 use crate::rules::check_rules;
+use crate::signature::{Signature, signatures};
 use crate::units::each_right;
 use hs_expr::Failure;
 use hs_text::{Definition, Syntax};
@@ -32,21 +34,34 @@ pub fn check_units(alloc: Global, meta: &Meta, syntax: &Syntax) -> Result<(), Fa
     ensures { Gives result (verdict (spec.faults_of_units meta.now syntax.now.definitions)) }
 {
     let definitions = syntax.definitions.as_slice();
-    let callees = Callees::new(alloc, definitions)?;
-    units_right(alloc, meta, &callees, definitions)
+    let signatures = signatures(alloc, meta, definitions)?;
+    signed_right(alloc, meta, definitions, signatures.as_slice())
+}
+
+/// The first fault of the units among the definitions, given what calls ask of what they call.
+fn signed_right(
+    alloc: Global,
+    meta: &Meta,
+    definitions: &[Definition],
+    signatures: &[Signature<'_>],
+) -> Result<(), Failure<RuleFault>>
+    requires signatures { signatures.now ≡ all_signed meta.now definitions.now }
+    ensures { Gives result (verdict (spec.faults_of_units meta.now definitions.now)) }
+{
+    let callees = Callees::new(alloc, meta, definitions, signatures)?;
+    units_right(alloc, &callees, definitions)
 }
 
 /// The first fault of the units among the definitions, cycles behind all others.
 #[tactic(auto, using(hs_expr::proofs::Verdicts::each_steps, crate::proofs::Failing::fails))]
 fn units_right(
     alloc: Global,
-    meta: &Meta,
-    callees: &Callees<'_>,
+    callees: &Callees<'_, '_>,
     definitions: &[Definition],
 ) -> Result<(), Failure<RuleFault>>
-    requires callees { callees.now ≡ definitions.now }
-    ensures { Gives result (verdict (spec.faults_of_units meta.now definitions.now)) }
+    requires callees { callees.now.definitions ≡ definitions.now }
+    ensures { Gives result (verdict (spec.faults_of_units callees.now.meta definitions.now)) }
 {
-    each_right(alloc, meta, callees, definitions)?;
+    each_right(alloc, callees, definitions)?;
     cycles_right(alloc, callees, definitions)
 }

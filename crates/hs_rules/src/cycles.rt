@@ -34,10 +34,10 @@ impl<'a> Model for UnitRef<'a> {
 /// The fault of the first unit that calls itself by a path.
 pub fn cycles_right(
     alloc: Global,
-    callees: &Callees<'_>,
+    callees: &Callees<'_, '_>,
     definitions: &[Definition],
 ) -> Result<(), Failure<RuleFault>>
-    requires callees { callees.now ≡ definitions.now }
+    requires callees { callees.now.definitions ≡ definitions.now }
     ensures { Gives result (verdict (spec.cycle_faults (spec.rules_of definitions.now) (spec.units_of definitions.now))) }
 {
     let units = units_of(alloc, definitions)?;
@@ -88,10 +88,10 @@ fn add_unit<'a>(units: &mut List<UnitRef<'a>>, definition: &'a Definition) -> Re
 /// For each unit the numbers of the units that it calls.
 fn called_by_each(
     alloc: Global,
-    callees: &Callees<'_>,
+    callees: &Callees<'_, '_>,
     units: &[UnitRef<'_>],
 ) -> Result<List<List<usize>>, AllocError>
-    ensures { IfOk result (λ called. called ≡ map (spec.units_called (spec.rules_of callees.now) units.now) units.now) }
+    ensures { IfOk result (λ called. called ≡ map (spec.units_called (spec.rules_of callees.now.definitions) units.now) units.now) }
 {
     let mut called = List::new(alloc);
     for unit in units {
@@ -103,11 +103,11 @@ fn called_by_each(
 /// The numbers of the units that the body calls.
 fn called_by(
     alloc: Global,
-    callees: &Callees<'_>,
+    callees: &Callees<'_, '_>,
     units: &[UnitRef<'_>],
     body: &Body,
 ) -> Result<List<usize>, AllocError>
-    ensures { IfOk result (λ called. called ≡ filter_map (spec.unit_called (spec.rules_of callees.now) units.now) (spec.calls_of body.now)) }
+    ensures { IfOk result (λ called. called ≡ filter_map (spec.unit_called (spec.rules_of callees.now.definitions) units.now) (spec.calls_of body.now)) }
 {
     let mut called = List::new(alloc);
     add_called_by(callees, units, &mut called, body)?;
@@ -116,12 +116,12 @@ fn called_by(
 
 /// Adds the numbers of the units that the body calls.
 fn add_called_by(
-    callees: &Callees<'_>,
+    callees: &Callees<'_, '_>,
     units: &[UnitRef<'_>],
     called: &mut List<usize>,
     body: &Body,
 ) -> Result<(), AllocError>
-    ensures { OnOk result (called.new ≡ called.old ++ filter_map (spec.unit_called (spec.rules_of callees.now) units.now) (spec.calls_of body.now)) }
+    ensures { OnOk result (called.new ≡ called.old ++ filter_map (spec.unit_called (spec.rules_of callees.now.definitions) units.now) (spec.calls_of body.now)) }
 {
     match body {
         Body::Sequential(calls) => add_all_called(callees, units, called, calls.as_slice()),
@@ -142,12 +142,12 @@ fn add_called_by(
 }
 
 fn add_called_else(
-    callees: &Callees<'_>,
+    callees: &Callees<'_, '_>,
     units: &[UnitRef<'_>],
     called: &mut List<usize>,
     otherwise: &Option<Call>,
 ) -> Result<(), AllocError>
-    ensures { OnOk result (called.new ≡ called.old ++ filter_map (spec.unit_called (spec.rules_of callees.now) units.now) (spec.else_calls otherwise.now)) }
+    ensures { OnOk result (called.new ≡ called.old ++ filter_map (spec.unit_called (spec.rules_of callees.now.definitions) units.now) (spec.else_calls otherwise.now)) }
 {
     match otherwise {
         Some(call) => add_called(callees, units, called, call),
@@ -156,12 +156,12 @@ fn add_called_else(
 }
 
 fn add_all_called(
-    callees: &Callees<'_>,
+    callees: &Callees<'_, '_>,
     units: &[UnitRef<'_>],
     called: &mut List<usize>,
     calls: &[Call],
 ) -> Result<(), AllocError>
-    ensures { OnOk result (called.new ≡ called.old ++ filter_map (spec.unit_called (spec.rules_of callees.now) units.now) calls.now) }
+    ensures { OnOk result (called.new ≡ called.old ++ filter_map (spec.unit_called (spec.rules_of callees.now.definitions) units.now) calls.now) }
 {
     for call in calls {
         add_called(callees, units, called, call)?;
@@ -171,12 +171,12 @@ fn add_all_called(
 
 /// Adds the number of the unit that is called, if it is a unit.
 fn add_called(
-    callees: &Callees<'_>,
+    callees: &Callees<'_, '_>,
     units: &[UnitRef<'_>],
     called: &mut List<usize>,
     call: &Call,
 ) -> Result<(), AllocError>
-    ensures { OnOk result (called.new ≡ called.old ++ filter_map (spec.unit_called (spec.rules_of callees.now) units.now) (call.now ∷ [])) }
+    ensures { OnOk result (called.new ≡ called.old ++ filter_map (spec.unit_called (spec.rules_of callees.now.definitions) units.now) (call.now ∷ [])) }
 {
     match unit_called(callees, units, call) {
         Some(number) => called.push(number),
@@ -185,8 +185,8 @@ fn add_called(
 }
 
 /// The number of the unit that is called; a rule goes before a unit of its name.
-fn unit_called(callees: &Callees<'_>, units: &[UnitRef<'_>], call: &Call) -> Option<usize>
-    ensures { result ≡ spec.unit_called (spec.rules_of callees.now) units.now call.now }
+fn unit_called(callees: &Callees<'_, '_>, units: &[UnitRef<'_>], call: &Call) -> Option<usize>
+    ensures { result ≡ spec.unit_called (spec.rules_of callees.now.definitions) units.now call.now }
 {
     if callees.is_rule(call.callee.text.as_str()) {
         return None;

@@ -1,18 +1,18 @@
-//! The parameters of what is called.
+//! What a call asks of what it calls.
 
 ghost use Rattle.std.specs.Prelude.{◌≡◌, ◌++◌, ◌∷◌, [], IfOk, OnOk, List as Sequence, true, if◌then◌else◌};
-ghost use Rattle.std.specs.List.{filter, list_all};
+ghost use Rattle.std.specs.List.{filter, flat_map, list_all};
 ghost use Rattle.hs_text.specs.declared.syntax.Param.{Param as WrittenParam};
 ghost use Rattle.hs_rules.specs.FirstPass.{is_again};
 ghost use Rattle.hs_rules.specs.Named.{Knows};
-ghost use Rattle.hs_rules.specs.Signed.{signed};
+ghost use Rattle.hs_rules.specs.Signed.{all_signed, signed, signed_rule, signed_unit};
 ghost use Rattle.hs_rules.specs.UnitFaults as spec;
 
 use crate::arguments::{is_in, is_kind};
 use crate::known::{Known, Named, find_named, keep_first};
 use crate::name_map::{NameMap, ParamMap};
-use hs_expr::List;
-use hs_text::Param;
+use hs_expr::{List, Name};
+use hs_text::{Definition, Param};
 use hs_types::Meta;
 use std::alloc::{AllocError, Global};
 use std::marker::Model;
@@ -31,9 +31,11 @@ impl<'a> Model for MeantParam<'a> {
     ghost view = { λ meant. meant.param.now };
 }
 
-/// The parameters of what is called, with a way to look them up by name.
+/// The parameters of a rule or a unit, with a way to look them up by name, and what is asked of them
+/// at each call.
 #[derive(Drop)]
 pub struct Signature<'a> {
+    name: &'a Name,
     params: ParamMap<'a>,
     needed: List<MeantParam<'a>>,
     have_kinds: bool,
@@ -47,14 +49,19 @@ impl<'a> Model for Signature<'a> {
 
     ghost Value = { Signed };
 
-    ghost view = { λ signature. record { params = signature.params; have_kinds = signature.have_kinds } };
+    ghost view = { λ signature. record { name = signature.name.now; params = signature.params; have_kinds = signature.have_kinds } };
 
     ghost invariant = { λ signature. signature.needed ≡ filter spec.is_in (spec.meant_params signature.params) };
 }
 
 impl<'a> Signature<'a> {
-    pub fn new(alloc: Global, meta: &Meta, params: &'a [Param]) -> Result<Signature<'a>, AllocError>
-        ensures { IfOk result (λ signature. signature ≡ signed meta.now params.now) }
+    fn new(
+        alloc: Global,
+        meta: &Meta,
+        name: &'a Name,
+        params: &'a [Param],
+    ) -> Result<Signature<'a>, AllocError>
+        ensures { IfOk result (λ signature. signature ≡ signed meta.now name.now params.now) }
     {
         let mut known = Known::new(alloc);
         let mut meant = List::new(alloc);
@@ -62,6 +69,7 @@ impl<'a> Signature<'a> {
         let have_kinds = have_kinds(meta, meant.as_slice());
         let needed = needed(alloc, meant.as_slice())?;
         Ok(Signature {
+            name,
             params: NameMap::new(params, known),
             needed,
             have_kinds,
@@ -85,6 +93,92 @@ impl<'a> Signature<'a> {
         ensures { result.now ≡ filter spec.is_in (spec.meant_params self.now.params) }
     {
         self.needed.as_slice()
+    }
+}
+
+impl<'a> Named for Signature<'a> {
+    ghost named = { λ signature. signature.name };
+
+    fn name(&self) -> &Name {
+        self.name
+    }
+}
+
+/// What calls ask of the rules and, behind them, of the units.
+pub fn signatures<'a>(
+    alloc: Global,
+    meta: &Meta,
+    definitions: &'a [Definition],
+) -> Result<List<Signature<'a>>, AllocError>
+    ensures { IfOk result (λ signatures. signatures ≡ all_signed meta.now definitions.now) }
+{
+    let mut signatures = List::new(alloc);
+    add_rules(alloc, meta, &mut signatures, definitions)?;
+    add_units(alloc, meta, &mut signatures, definitions)?;
+    Ok(signatures)
+}
+
+fn add_rules<'a>(
+    alloc: Global,
+    meta: &Meta,
+    signatures: &mut List<Signature<'a>>,
+    definitions: &'a [Definition],
+) -> Result<(), AllocError>
+    ensures { OnOk result (signatures.new ≡ signatures.old ++ flat_map (signed_rule meta.now) definitions.now) }
+{
+    for definition in definitions {
+        add_rule(alloc, meta, signatures, definition)?;
+    }
+    Ok(())
+}
+
+/// Adds the definition, if it is a rule.
+fn add_rule<'a>(
+    alloc: Global,
+    meta: &Meta,
+    signatures: &mut List<Signature<'a>>,
+    definition: &'a Definition,
+) -> Result<(), AllocError>
+    ensures { OnOk result (signatures.new ≡ signatures.old ++ signed_rule meta.now definition.now) }
+{
+    match definition {
+        Definition::Rule(rule) => {
+            let params = rule.params.as_slice();
+            signatures.push(Signature::new(alloc, meta, &rule.name, params)?)
+        }
+        Definition::Unit(_) => Ok(()),
+    }
+}
+
+fn add_units<'a>(
+    alloc: Global,
+    meta: &Meta,
+    signatures: &mut List<Signature<'a>>,
+    definitions: &'a [Definition],
+) -> Result<(), AllocError>
+    ensures { OnOk result (signatures.new ≡ signatures.old ++ flat_map (signed_unit meta.now) definitions.now) }
+{
+    for definition in definitions {
+        add_unit(alloc, meta, signatures, definition)?;
+    }
+    Ok(())
+}
+
+/// Adds the definition, if it is a unit.
+fn add_unit<'a>(
+    alloc: Global,
+    meta: &Meta,
+    signatures: &mut List<Signature<'a>>,
+    definition: &'a Definition,
+) -> Result<(), AllocError>
+    ensures { OnOk result (signatures.new ≡ signatures.old ++ signed_unit meta.now definition.now) }
+{
+    match definition {
+        Definition::Rule(_) => Ok(()),
+        Definition::Unit(unit) => {
+            let params = unit.params.as_slice();
+            signatures.push(Signature::new(alloc, meta, &unit.name, params)?)
+        }
     }
 }
 

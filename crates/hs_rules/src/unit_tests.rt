@@ -267,3 +267,24 @@ fn limits_of_units_are_kept(rt: HostRuntime) -> Result<(), Fail> {
     }
     Ok(())
 }
+
+/// A unit that calls another one so many times, which has one parameter more than that.
+fn many_calls(alloc: Global, count: u32) -> Result<String, AllocError> {
+    let call = ("v(); // ", "\n");
+    let calls = numbered(alloc, "unit u() sequential {", call, count, "}\nunit v(")?;
+    let param = ("out c", ": Client, ");
+    numbered(
+        alloc,
+        calls.as_str(),
+        param,
+        count,
+        "out d: Client) sequential { }",
+    )
+}
+
+#[test]
+fn many_calls_of_many_parameters_are_checked(rt: HostRuntime) -> Result<(), Fail> {
+    let text = many_calls(rt.alloc(), 20_000)?;
+    assert!(rt; is_answer(rt.alloc(), text.as_str(), "unit 1:6 Limit")?,);
+    Ok(())
+}

@@ -42,19 +42,18 @@ pub struct SeenUnits<'a> {
 /// The first fault of the units among the definitions, but for cycles.
 pub fn each_right(
     alloc: Global,
-    meta: &Meta,
-    callees: &Callees<'_>,
+    callees: &Callees<'_, '_>,
     definitions: &[Definition],
 ) -> Result<(), Failure<RuleFault>>
-    requires callees { callees.now ≡ definitions.now }
-    ensures { Gives result (verdict (spec.faults_of_each meta.now definitions.now)) }
+    requires callees { callees.now.definitions ≡ definitions.now }
+    ensures { Gives result (verdict (spec.faults_of_each callees.now.meta definitions.now)) }
 {
     let mut seen = SeenUnits {
         by_name: Known::new(alloc),
         count: 0,
     };
     for definition in definitions {
-        definition_right(alloc, meta, callees, &mut seen, definition)?;
+        definition_right(alloc, callees, &mut seen, definition)?;
     }
     Ok(())
 }
@@ -62,18 +61,17 @@ pub fn each_right(
 /// The first fault of the definition, if it is a unit, behind those that are seen, which it joins.
 fn definition_right<'a>(
     alloc: Global,
-    meta: &Meta,
-    callees: &Callees<'_>,
+    callees: &Callees<'_, '_>,
     seen: &mut SeenUnits<'a>,
     definition: &'a Definition,
 ) -> Result<(), Failure<RuleFault>>
     ensures told { (before : List WrittenUnit) → HasSeenUnits seen.old before
-        → Gives result (verdict (spec.unit_faults_of_definition meta.now (spec.rules_of callees.now) (spec.units_of callees.now) before definition.now)) }
+        → Gives result (verdict (spec.unit_faults_of_definition callees.now.meta (spec.rules_of callees.now.definitions) (spec.units_of callees.now.definitions) before definition.now)) }
     ensures seen { (before : List WrittenUnit) → HasSeenUnits seen.old before → OnOk result (HasSeenUnits seen.new (before ++ spec.unit_of definition.now)) }
 {
     match definition {
         Definition::Rule(_) => Ok(()),
-        Definition::Unit(unit) => next_right(alloc, meta, callees, seen, unit),
+        Definition::Unit(unit) => next_right(alloc, callees, seen, unit),
     }
 }
 
@@ -81,13 +79,12 @@ fn definition_right<'a>(
 #[tactic(auto, using(hs_expr::proofs::Verdicts::each_steps, crate::proofs::Failing::fails))]
 fn next_right<'a>(
     alloc: Global,
-    meta: &Meta,
-    callees: &Callees<'_>,
+    callees: &Callees<'_, '_>,
     seen: &mut SeenUnits<'a>,
     unit: &'a Unit,
 ) -> Result<(), Failure<RuleFault>>
     ensures told { (before : List WrittenUnit) → HasSeenUnits seen.old before
-        → Gives result (verdict (spec.faults_of_unit meta.now (spec.rules_of callees.now) (spec.units_of callees.now) before unit.now)) }
+        → Gives result (verdict (spec.faults_of_unit callees.now.meta (spec.rules_of callees.now.definitions) (spec.units_of callees.now.definitions) before unit.now)) }
     ensures seen { (before : List WrittenUnit) → HasSeenUnits seen.old before → OnOk result (HasSeenUnits seen.new (before ++ unit.now ∷ [])) }
 {
     demand(
@@ -103,37 +100,35 @@ fn next_right<'a>(
         unit_fault_at(unit.name.span, RuleFaultKind::Twice),
     )?;
     seen.count += 1;
-    unit_right(alloc, meta, callees, unit)
+    unit_right(alloc, callees, unit)
 }
 
 /// The first fault of what stands in a unit.
 #[tactic(auto, using(hs_expr::proofs::Verdicts::each_steps, crate::proofs::Failing::fails))]
 fn unit_right(
     alloc: Global,
-    meta: &Meta,
-    callees: &Callees<'_>,
+    callees: &Callees<'_, '_>,
     unit: &Unit,
 ) -> Result<(), Failure<RuleFault>>
-    ensures { Gives result (verdict (spec.faults_in_unit meta.now (spec.rules_of callees.now) (spec.units_of callees.now) unit.now)) }
+    ensures { Gives result (verdict (spec.faults_in_unit callees.now.meta (spec.rules_of callees.now.definitions) (spec.units_of callees.now.definitions) unit.now)) }
 {
-    let known = unit_params_right(alloc, meta, unit.params.as_slice())?;
+    let known = unit_params_right(alloc, callees.meta(), unit.params.as_slice())?;
     let own = NameMap::new(unit.params.as_slice(), known);
-    calls_and_sizes(alloc, meta, callees, &own, unit)
+    calls_and_sizes(alloc, callees, &own, unit)
 }
 
 /// The first fault of the unit's body, and of its sizes.
 #[tactic(auto, using(hs_expr::proofs::Verdicts::each_steps, crate::proofs::Failing::fails))]
 fn calls_and_sizes(
     alloc: Global,
-    meta: &Meta,
-    callees: &Callees<'_>,
+    callees: &Callees<'_, '_>,
     own: &ParamMap<'_>,
     unit: &Unit,
 ) -> Result<(), Failure<RuleFault>>
     requires own { own.now ≡ unit.now.params }
-    ensures { Gives result (verdict (spec.faults_of_body meta.now (spec.rules_of callees.now) (spec.units_of callees.now) unit.now)) }
+    ensures { Gives result (verdict (spec.faults_of_body callees.now.meta (spec.rules_of callees.now.definitions) (spec.units_of callees.now.definitions) unit.now)) }
 {
-    body_right(alloc, meta, callees, own, &unit.body)?;
+    body_right(alloc, callees, own, &unit.body)?;
     demand(
         keeps_limits(unit),
         unit_fault_at(unit.name.span, RuleFaultKind::Limit),

@@ -5,5 +5,5 @@ use Rattle.hs_rules.proofs.calls.calls_right.Given as goal
 
 abbrev pub invariant-loop-call : goal.invariant-loop-call
 invariant-loop-call l =
-    verdict (each_from (λ i call. call_faults l.meta (rules_of l.callees) (units_of l.callees) l.own call) l.call-index (drop l.call-index l.calls))
-    ≡ verdict (each (λ i call. call_faults l.meta (rules_of l.callees) (units_of l.callees) l.own call) l.calls)
+    verdict (each_from (λ i call. call_faults l.callees.meta (rules_of l.callees.definitions) (units_of l.callees.definitions) l.own call) l.call-index (drop l.call-index l.calls))
+    ≡ verdict (each (λ i call. call_faults l.callees.meta (rules_of l.callees.definitions) (units_of l.callees.definitions) l.own call) l.calls)

@@ -6,4 +6,4 @@ use Rattle.hs_rules.specs.UnitFaults.{faults_of_units}
 use Rattle.hs_rules.proofs.checking.check_units.Goals as goal
 
 pub returns : goal.returns
-returns c = subst (λ (definitions : List Definition). Gives c.units_right.result (verdict (faults_of_units c.args.meta.now definitions))) c.as_slice-definitions.ensures c.units_right.ensures
+returns c = subst (λ (definitions : List Definition). Gives c.signed_right.result (verdict (faults_of_units c.args.meta.now definitions))) c.as_slice-definitions.ensures c.signed_right.ensures

@@ -12,8 +12,8 @@ loop-definition-preserved c =
     let more : units_of (take (c.loop-definition.definition-index + 1) c.args.definitions.now) ≡ before ++ unit_of c.definition-item.result = units_more c.args.definitions.now c.loop-definition.definition-index c.definition-item.result c.loop-definition-test.true (sym c.definition-item.is) in
     record {
       seen = subst (λ (units : List WrittenUnit). HasSeenUnits c.definition_right.new.seen units) (sym more) (c.in_ok-definition_right.ensures.seen before c.loop-definition.invariant.seen);
-      rest = ap (λ (units : List WrittenUnit). verdict (unit_faults_behind c.args.meta.now (rules_of c.args.callees.now) (units_of c.args.callees.now) units (drop (c.loop-definition.definition-index + 1) c.args.definitions.now))) more
-          ∙ unit_next c.args.meta.now (rules_of c.args.callees.now) (units_of c.args.callees.now) before c.args.definitions.now c.loop-definition.definition-index c.definition-item.result (verdict (faults_of_each c.args.meta.now c.args.definitions.now))
+      rest = ap (λ (units : List WrittenUnit). verdict (unit_faults_behind c.args.callees.now.meta (rules_of c.args.callees.now.definitions) (units_of c.args.callees.now.definitions) units (drop (c.loop-definition.definition-index + 1) c.args.definitions.now))) more
+          ∙ unit_next c.args.callees.now.meta (rules_of c.args.callees.now.definitions) (units_of c.args.callees.now.definitions) before c.args.definitions.now c.loop-definition.definition-index c.definition-item.result (verdict (faults_of_each c.args.callees.now.meta c.args.definitions.now))
           c.loop-definition-test.true (sym c.definition-item.is) c.loop-definition.invariant.rest
           (c.in_ok-definition_right.ensures.told before c.loop-definition.invariant.seen);
     }

@@ -7,5 +7,5 @@ use Rattle.hs_rules.proofs.units.each_right.Given as goal
 abbrev pub invariant-loop-definition : goal.invariant-loop-definition
 invariant-loop-definition l = record {
   seen : HasSeenUnits l.seen (units_of (take l.definition-index l.definitions));
-  rest : verdict (unit_faults_behind l.meta (rules_of l.callees) (units_of l.callees) (units_of (take l.definition-index l.definitions)) (drop l.definition-index l.definitions)) ≡ verdict (faults_of_each l.meta l.definitions);
+  rest : verdict (unit_faults_behind l.callees.meta (rules_of l.callees.definitions) (units_of l.callees.definitions) (units_of (take l.definition-index l.definitions)) (drop l.definition-index l.definitions)) ≡ verdict (faults_of_each l.callees.meta l.definitions);
 }
