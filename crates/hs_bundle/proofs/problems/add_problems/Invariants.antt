@@ -1,4 +1,4 @@
-use Rattle.std.proofs.Common.{◌≡◌, ◌++◌, ℕ, List, [], drop, string_bytes}
+use Rattle.std.proofs.Common.{◌≡◌, ◌++◌, ℕ, List, drop, string_bytes}
 use Rattle.hs_graph.specs.Index.{names_by}
 use Rattle.hs_bundle.specs.Problems.{lines_of}
 use Rattle.hs_bundle.proofs.problems.add_problems.Given as goal
