@@ -2,7 +2,8 @@
 use Rattle.std.proofs.Common.{ℕ, ◌≡◌, ◌∙◌, inl, inr, List, [], ◌∷◌, Bool, true, false, length, Option, Some, None, refl, ap, sym, subst, arith}
 use Rattle.std.specs.Prelude.{◌&&◌, IfSome, IsSomeAnd, codes, not, slice_get, if◌then◌else◌}
 use Rattle.std.specs.Arc.{arc_value}
-use Rattle.std.specs.List.{All, list_all}
+use Rattle.std.specs.List.{All, AllByRecursion, list_all}
+use Rattle.std.proofs.Math.Dec.{eqb-suc-zero}
 use Rattle.std.specs.Option.{option_and_then, option_map}
 use Rattle.serde_json.specs.Data.{Data}
 use Rattle.hs_text.specs.Canonical.{canonical_text}
@@ -28,8 +29,10 @@ use Rattle.hs_input.specs.Input.{IsInput}
 use Rattle.hs_input.specs.Refusing.{Refuses}
 use Rattle.hs_input.specs.Sessions.{has_none, is_bare, is_called, is_empty, keeps_all, once, only_adds, only_rule, plain_call, rule_called, sessions_asked}
 use Rattle.hs_apply.proofs.Additions.{few_left}
-use Rattle.hs_finding.specs.FirstMatch.{OnlyAdds}
+use Rattle.hs_finding.specs.FirstMatch.{OnlyAdds, no_args}
+use Rattle.hs_rules.proofs.Following.{all_from}
 use Rattle.hs_check.proofs.Apart.{is_text}
+use Rattle.hs_check.proofs.Picked.{All-at}
 use Rattle.hs_session.specs.declared.report.Report.{Report}
 use Rattle.hs_session.specs.Answers.{rule_named}
 use Rattle.hs_session.specs.Runnable.{IsRunnable}
@@ -48,15 +51,18 @@ both false b e = absurd (cc)
 
 empty : {A : Type 0} (xs : List A) → is_empty xs ≡ true → xs ≡ []
 empty [] e = refl
-empty (x ∷ xs) e = absurd (cc)
+empty (x ∷ xs) e = let no : false ≡ true = sym (eqb-suc-zero (length xs)) ∙ e in absurd (cc)
 
 not-true : (b : Bool) → not b ≡ true → b ≡ false
 not-true true e = absurd (cc)
 not-true false e = refl
 
+each-so : {A : Type 0} (q : A → Bool) (xs : List A) → list_all (λ x. not (q x)) xs ≡ true → AllByRecursion (λ x. q x ≡ false) xs
+each-so q [] e = tt
+each-so q (x ∷ xs) e = let d = both (not (q x)) (list_all (λ y. not (q y)) xs) e in (not-true (q x) d.0, each-so q xs d.1)
+
 all-so : {A : Type 0} (q : A → Bool) (xs : List A) → list_all (λ x. not (q x)) xs ≡ true → All (λ x. q x ≡ false) xs
-all-so q [] e = tt
-all-so q (x ∷ xs) e = let d = both (not (q x)) _ e in (not-true (q x) d.0, all-so q xs d.1)
+all-so q xs e = all_from (λ x. q x ≡ false) xs (each-so q xs e)
 
 adds : (rule : Rule) → only_adds rule ≡ true → OnlyAdds rule × (rule.params ≡ [])
 adds rule e =
@@ -162,11 +168,16 @@ calls_first rules sessions request only =
     let call : request.call ≡ only.rule.name = ap (λ (r : Request). r.call) only.is_plain in
     rw (only.is_only, call, is_text only.rule.name only.rule.name refl) refl
 
+-- It has no arguments.
+pub no_arguments : (rules : List Rule) (sessions : List (List Request)) (request : Request) → IsOnly rules sessions request → request.args ≡ no_args
+no_arguments rules sessions request only = ap (λ (r : Request). r.args) only.is_plain
+
 -- It can be run.
 pub can_run : (m : Metamodel) (g : Graph) (rules : List Rule) (units : List RuleUnit) (sessions : List (List Request)) (request : Request) → IsOnly rules sessions request → IsSound m g → IsRuleSet m rules units → IsSomeAnd (slice_get rules 0) (IsRunnable m g)
 can_run m g rules units sessions request only sound set =
-    let each = subst (λ (rs : List Rule). All (λ rule. IsRule m rule × IsSmallRule rule) rs) only.is_only set.are_rules in
-    subst (λ (rs : List Rule). IsSomeAnd (slice_get rs 0) (IsRunnable m g)) (sym only.is_only) (runnable m g only.rule sound each.0.0 each.0.1 only.is_bare)
+    let first : slice_get rules 0 ≡ Some only.rule = ap (λ (rs : List Rule). slice_get rs 0) only.is_only in
+    let has = All-at (λ (rule : Rule). IsRule m rule × IsSmallRule rule) rules 0 only.rule set.are_rules first in
+    rw first (runnable m g only.rule sound has.0 has.1 only.is_bare)
 
 -- ---- bytes that were read
 
