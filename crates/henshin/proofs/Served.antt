@@ -1,5 +1,5 @@
 -- What follows of an input, for its run.
-use Rattle.std.proofs.Common.{ℕ, ◌≡◌, ◌∙◌, inl, inr, List, [], ◌∷◌, Bool, true, false, length, Option, Some, None, refl, ap, sym, subst, arith}
+use Rattle.std.proofs.Common.{ℕ, ◌≡◌, ◌∙◌, List, [], ◌∷◌, Bool, true, false, length, Option, Some, None, refl, ap, sym, subst, arith}
 use Rattle.std.specs.Prelude.{◌&&◌, IfSome, IsSomeAnd, codes, not, slice_get, if◌then◌else◌}
 use Rattle.std.specs.Arc.{arc_value}
 use Rattle.std.specs.List.{All, AllByRecursion, list_all}
@@ -15,7 +15,6 @@ use Rattle.hs_types.specs.declared.rule.PatternNode.{PatternNode}
 use Rattle.hs_types.specs.declared.rule.Rule.{Rule}
 use Rattle.hs_types.specs.declared.unit.RuleSet.{RuleSet}
 use Rattle.hs_types.specs.declared.unit.Unit.{Unit as RuleUnit}
-use Rattle.hs_types.specs.Journal.{meta_of}
 use Rattle.hs_types.specs.Limits.{IsSmallRule}
 use Rattle.hs_types.specs.Pattern.{is_drop, is_left}
 use Rattle.hs_types.specs.RuleForm.{IsRule}
@@ -27,7 +26,7 @@ use Rattle.hs_input.specs.declared.reading.Input.{Input}
 use Rattle.hs_input.specs.declared.refusal.Refusal.{Refusal}
 use Rattle.hs_input.specs.Input.{IsInput}
 use Rattle.hs_input.specs.Refusing.{Refuses}
-use Rattle.hs_input.specs.Sessions.{has_none, is_bare, is_called, is_empty, keeps_all, once, only_adds, only_rule, plain_call, rule_called, sessions_asked}
+use Rattle.hs_input.specs.Sessions.{has_none, is_bare, is_called, is_empty, keeps_all, once, only_adds, plain_call, rule_called, sessions_asked}
 use Rattle.hs_apply.proofs.Additions.{few_left}
 use Rattle.hs_finding.specs.FirstMatch.{OnlyAdds, no_args}
 use Rattle.hs_rules.proofs.Following.{all_from}

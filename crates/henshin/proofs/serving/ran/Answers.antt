@@ -1,12 +1,8 @@
-use Rattle.std.proofs.Common.{◌≡◌, ◌∙◌, Some, None, List, [], ◌∷◌, ap, subst, sym}
-use Rattle.std.specs.Arc.{arc_value}
+use Rattle.std.proofs.Common.{◌∙◌, ap, subst, sym}
 use Rattle.std.specs.Option.{option_copied}
-use Rattle.hs_types.specs.declared.graph.Graph.{Graph}
 use Rattle.hs_types.specs.declared.meta.Metamodel.{Metamodel}
-use Rattle.hs_types.specs.declared.request.Request.{Request}
 use Rattle.hs_types.specs.Journal.{meta_of}
 use Rattle.hs_bundle.specs.Sound.{IsSound}
-use Rattle.hs_session.specs.SerialReport.{IsSerialReport}
 use Rattle.henshin.proofs.Served.{calls_first, can_run, no_arguments, no_request, one_request}
 use Rattle.henshin.proofs.serving.ran.Goals as goal
 
