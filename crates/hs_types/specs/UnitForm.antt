@@ -1,5 +1,5 @@
 -- The form of units and of whole rule sets: what the check of a text promises of the set that it lets through.
-use Rattle.std.specs.Prelude.{ℕ, ◌<◌, ◌≤◌, ◌≡◌, List, [], ◌∷◌, ◌++◌, map, length, true, Option, Some, None, IsSome, IsSomeAnd, slice_get}
+use Rattle.std.specs.Prelude.{ℕ, ◌≤◌, ◌≡◌, List, ◌++◌, map, length, true, Option, Some, None, IsSome, IsSomeAnd, slice_get}
 use Rattle.std.specs.List.{All, filter_map, find, list_any}
 use Rattle.std.specs.Option.{option_map}
 use Rattle.hs_expr.specs.declared.value.Kind.TheVariants as value
@@ -15,7 +15,7 @@ use Rattle.hs_types.specs.declared.unit.Atom.TheVariants as atom
 use Rattle.hs_types.specs.declared.unit.Bind.{Bind}
 use Rattle.hs_types.specs.declared.unit.Bind.TheVariants.{Give, Take}
 use Rattle.hs_types.specs.declared.unit.Body.{Body}
-use Rattle.hs_types.specs.declared.unit.Body.TheVariants.{Sequential, Independent, Priority, Conditional, Loop, Iterated}
+use Rattle.hs_types.specs.declared.unit.Body.TheVariants.{Iterated}
 use Rattle.hs_types.specs.declared.unit.Call.{Call}
 use Rattle.hs_types.specs.declared.unit.Callee.{Callee}
 use Rattle.hs_types.specs.declared.unit.Callee.TheVariants as callee
