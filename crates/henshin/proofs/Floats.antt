@@ -17,8 +17,8 @@ use Rattle.hs_types.specs.declared.request.Args.{Args}
 use Rattle.hs_types.specs.declared.unit.RuleSet.{RuleSet}
 use Rattle.hs_session.specs.declared.report.Out.{Out}
 use Rattle.hs_session.specs.declared.report.Reply.{Reply}
-use Rattle.hs_model.specs.Written.{with_members, object_data, list_data, value_data}
-use Rattle.hs_model.proofs.Floats.{HaveNone, object_none, list_none, map_none, with_none, value_none, attrs_none}
+use Rattle.hs_json_model.specs.Written.{with_members, object_data, list_data, value_data}
+use Rattle.henshin.proofs.WithoutFloats.{HaveNone, object_none, list_none, map_none, with_none, value_none, attrs_none}
 use Rattle.henshin.specs.ReportText.{number_data, arg_data, args_data, extension_members, extension_data, gone_members, gone_data, outcome_members, tried_members, what_members, place_members, entry_data, outs_data, reply_members, reply_data}
 
 pub outs_none : (outs : List Out) → has_float (outs_data outs) ≡ false

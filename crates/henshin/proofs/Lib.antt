@@ -1,4 +1,5 @@
 pub mod Floats
+mod WithoutFloats
 pub mod Known
 pub mod Lists
 pub mod Served

@@ -7,6 +7,10 @@ use Rattle.std.proofs.Math.Dec.{eqb-suc-zero}
 use Rattle.std.specs.Option.{option_and_then, option_map}
 use Rattle.serde_json.specs.Data.{Data}
 use Rattle.hs_text.specs.Canonical.{canonical_text}
+use Rattle.hs_expr.proofs.Items.{All-at, same_text-itself}
+use Rattle.hs_types.proofs.Adding.{empty, only_adds-fact}
+use Rattle.hs_types.specs.Additions.{is_empty, only_adds}
+use Rattle.std.proofs.lemmas.Bool.{and_parts}
 use Rattle.hs_types.specs.declared.graph.Graph.{Graph}
 use Rattle.hs_types.specs.declared.meta.Metamodel.{Metamodel}
 use Rattle.hs_types.specs.declared.request.Request.{Request}
@@ -19,19 +23,17 @@ use Rattle.hs_types.specs.Limits.{IsSmallRule}
 use Rattle.hs_types.specs.Pattern.{is_drop, is_left}
 use Rattle.hs_types.specs.RuleForm.{IsRule}
 use Rattle.hs_types.specs.UnitForm.{IsRuleSet}
-use Rattle.hs_bundle.specs.Problems.{text_of as problems_text}
-use Rattle.hs_bundle.specs.Reading.{Contents}
-use Rattle.hs_bundle.specs.Sound.{IsSound}
+use Rattle.hs_json.specs.Problems.{problems_text}
+use Rattle.hs_json.specs.Reading.{Contents}
+use Rattle.hs_json_model.specs.Sound.{IsSound}
 use Rattle.hs_input.specs.declared.reading.Input.{Input}
 use Rattle.hs_input.specs.declared.refusal.Refusal.{Refusal}
 use Rattle.hs_input.specs.Input.{IsInput}
 use Rattle.hs_input.specs.Refusing.{Refuses}
-use Rattle.hs_input.specs.Sessions.{has_none, is_bare, is_called, is_empty, keeps_all, once, only_adds, plain_call, rule_called, sessions_asked}
-use Rattle.hs_apply.proofs.Additions.{few_left}
-use Rattle.hs_finding.specs.FirstMatch.{OnlyAdds, no_args}
-use Rattle.hs_rules.proofs.Following.{all_from}
-use Rattle.hs_check.proofs.Apart.{is_text}
-use Rattle.hs_check.proofs.Picked.{All-at}
+use Rattle.hs_input.specs.Sessions.{has_none, is_built_rule, is_called, once, plain_call, rule_called, sessions_asked}
+use Rattle.hs_expr.proofs.Lists.{length-filter-le}
+use Rattle.hs_types.specs.Arguments.{no_args}
+use Rattle.hs_types.specs.Additions.{OnlyAdds}
 use Rattle.hs_session.specs.declared.report.Report.{Report}
 use Rattle.hs_session.specs.Answers.{rule_named}
 use Rattle.hs_session.specs.Runnable.{IsRunnable}
@@ -40,60 +42,25 @@ use Rattle.henshin.specs.declared.status.Status.{Status}
 use Rattle.henshin.specs.declared.status.Status.TheVariants.{Refused}
 use Rattle.henshin.specs.declared.words.Command.TheVariants.{Apply, Validate, Check}
 use Rattle.henshin.specs.ReportText.{report_text}
-use Rattle.henshin.specs.Served.{Gives}
+use Rattle.henshin.specs.Served.{IsOutput}
 
 -- ---- a rule that only adds
 
-both : (a b : Bool) → (a && b) ≡ true → (a ≡ true) × (b ≡ true)
-both true b e = (refl, e)
-both false b e = absurd (cc)
+both_so : (rule : Rule) → is_built_rule rule ≡ true → OnlyAdds rule × (rule.params ≡ [])
+both_so rule e =
+    let parts = and_parts (only_adds rule) (is_empty rule.params) e in
+    (only_adds-fact rule parts.0, empty rule.params parts.1)
 
-empty : {A : Type 0} (xs : List A) → is_empty xs ≡ true → xs ≡ []
-empty [] e = refl
-empty (x ∷ xs) e = let no : false ≡ true = sym (eqb-suc-zero (length xs)) ∙ e in absurd (cc)
-
-not-true : (b : Bool) → not b ≡ true → b ≡ false
-not-true true e = absurd (cc)
-not-true false e = refl
-
-each-so : {A : Type 0} (q : A → Bool) (xs : List A) → list_all (λ x. not (q x)) xs ≡ true → AllByRecursion (λ x. q x ≡ false) xs
-each-so q [] e = tt
-each-so q (x ∷ xs) e = let d = both (not (q x)) (list_all (λ y. not (q y)) xs) e in (not-true (q x) d.0, each-so q xs d.1)
-
-all-so : {A : Type 0} (q : A → Bool) (xs : List A) → list_all (λ x. not (q x)) xs ≡ true → All (λ x. q x ≡ false) xs
-all-so q xs e = all_from (λ x. q x ≡ false) xs (each-so q xs e)
-
-adds : (rule : Rule) → only_adds rule ≡ true → OnlyAdds rule × (rule.params ≡ [])
-adds rule e =
-    let parts = both (keeps_all rule.shape) (is_bare rule) e in
-    let kept = both (list_all (λ (node : PatternNode). not (is_drop node.mark)) rule.shape.nodes) _ parts.0 in
-    let a = both (is_empty rule.params) _ parts.1 in
-    let b = both (is_empty rule.forbids) _ a.1 in
-    let c = both (is_empty rule.needs) _ b.1 in
-    let d = both (is_empty rule.multis) _ c.1 in
-    let f = both (is_empty rule.wheres) _ d.1 in (
-      record {
-        keeps_nodes = all-so (λ (node : PatternNode). is_drop node.mark) rule.shape.nodes kept.0;
-        keeps_edges = all-so (λ (edge : PatternEdge). is_drop edge.mark) rule.shape.edges kept.1;
-        forbids = empty rule.forbids b.0;
-        needs = empty rule.needs c.0;
-        multis = empty rule.multis d.0;
-        wheres = empty rule.wheres f.0;
-        sets = empty rule.sets f.1;
-      },
-      empty rule.params a.0,
-    )
-
-runnable : (m : Metamodel) (g : Graph) (rule : Rule) → IsSound m g → IsRule m rule → IsSmallRule rule → only_adds rule ≡ true → IsRunnable m g rule
+runnable : (m : Metamodel) (g : Graph) (rule : Rule) → IsSound m g → IsRule m rule → IsSmallRule rule → is_built_rule rule ≡ true → IsRunnable m g rule
 runnable m g rule sound formed small bare =
-    let only = adds rule bare in
+    let only = both_so rule bare in
     let few_nodes = small.kernel.few_nodes in
     let few_edges = small.kernel.few_edges in
     record {
       well_formed = formed;
       no_params = only.1;
       only_adds = only.0;
-      small = omega (arith, few_left (λ (node : PatternNode). is_left node.mark) rule.shape.nodes, few_left (λ (edge : PatternEdge). is_left edge.mark) rule.shape.edges, few_nodes, few_edges);
+      small = omega (arith, length-filter-le (λ (node : PatternNode). is_left node.mark) rule.shape.nodes, length-filter-le (λ (edge : PatternEdge). is_left edge.mark) rule.shape.edges, few_nodes, few_edges);
       room = record {
         objects = omega (arith, sound.is_opening.next_object, sound.few_objects, few_nodes);
         edges = omega (arith, sound.is_opening.next_edge, sound.few_edges, few_edges);
@@ -107,39 +74,39 @@ runnable m g rule sound formed small bare =
 pub record IsOnce (rules : List Rule) (sessions : List (List Request)) : Type 0 where
   pub rule : Rule
   pub is_only : rules ≡ rule ∷ []
-  pub is_bare : only_adds rule ≡ true
+  pub is_built : is_built_rule rule ≡ true
   pub are : sessions ≡ once rule
 
 data Asked (rules : List Rule) (sessions : List (List Request)) : Type 0 where
   nothing : sessions ≡ [] → Asked rules sessions
   one_call : IsOnce rules sessions → Asked rules sessions
 
-taken : (rule : Rule) (bare called : Bool) (sessions : List (List Request)) → only_adds rule ≡ bare → option_map once (if bare && called then Some rule else None) ≡ Some sessions → IsOnce (rule ∷ []) sessions
-taken rule true true sessions bare e = record { rule = rule; is_only = refl; is_bare = bare; are = cc }
+taken : (rule : Rule) (bare called : Bool) (sessions : List (List Request)) → is_built_rule rule ≡ bare → option_map once (if bare && called then Some rule else None) ≡ Some sessions → IsOnce (rule ∷ []) sessions
+taken rule true true sessions bare e = record { rule = rule; is_only = refl; is_built = bare; are = cc }
 taken rule true false sessions bare e = absurd (cc)
 taken rule false called sessions bare e = absurd (cc)
 
-called : (rules : List Rule) (units : List RuleUnit) (whole : Data) (sessions : List (List Request)) → option_map once (rule_called rules units whole) ≡ Some sessions → IsOnce rules sessions
-called [] units whole sessions e = absurd (cc)
-called (rule ∷ []) [] whole sessions e = taken rule (only_adds rule) (is_called whole rule) sessions refl e
-called (rule ∷ []) (unit ∷ units) whole sessions e = absurd (cc)
-called (rule ∷ other ∷ rules) units whole sessions e = absurd (cc)
+called : (rules : List Rule) (units : List RuleUnit) (found : Option Data) (sessions : List (List Request)) → option_map once (rule_called rules units found) ≡ Some sessions → IsOnce rules sessions
+called [] units found sessions e = absurd (cc)
+called (rule ∷ []) [] found sessions e = taken rule (is_built_rule rule) (is_called found rule) sessions refl e
+called (rule ∷ []) (unit ∷ units) found sessions e = absurd (cc)
+called (rule ∷ other ∷ rules) units found sessions e = absurd (cc)
 
-chosen : (rules : List Rule) (units : List RuleUnit) (whole : Data) (sessions : List (List Request)) (a b : Bool) →
-    (if not a then None else if b then Some [] else option_map once (rule_called rules units whole)) ≡ Some sessions → Asked rules sessions
-chosen rules units whole sessions false b e = absurd (cc)
-chosen rules units whole sessions true true e = nothing (cc)
-chosen rules units whole sessions true false e = one_call (called rules units whole sessions e)
+chosen : (rules : List Rule) (units : List RuleUnit) (found : Option Data) (sessions : List (List Request)) (a b : Bool) →
+    (if not a then None else if b then Some [] else option_map once (rule_called rules units found)) ≡ Some sessions → Asked rules sessions
+chosen rules units found sessions false b e = absurd (cc)
+chosen rules units found sessions true true e = nothing (cc)
+chosen rules units found sessions true false e = one_call (called rules units found sessions e)
 
-asked : (rules : List Rule) (units : List RuleUnit) (whole : Data) (sessions : List (List Request)) → sessions_asked rules units whole ≡ Some sessions → Asked rules sessions
-asked rules units whole sessions e = chosen rules units whole sessions (has_none (codes "journal") whole) (has_none (codes "sessions") whole) e
+asked : (rules : List Rule) (units : List RuleUnit) (found journal : Option Data) (sessions : List (List Request)) → sessions_asked rules units found journal ≡ Some sessions → Asked rules sessions
+asked rules units found journal sessions e = chosen rules units found sessions (has_none journal) (has_none found) e
 
 -- The first request of the first session.
 abbrev first : List (List Request) → Option Request
 first sessions = option_and_then (λ session. slice_get session 0) (slice_get sessions 0)
 
-pub no_request : (rules : List Rule) (units : List RuleUnit) (whole : Data) (sessions : List (List Request)) → sessions_asked rules units whole ≡ Some sessions → None ≡ first sessions → sessions ≡ []
-no_request rules units whole sessions e none = elim (asked rules units whole sessions e) [
+pub no_request : (rules : List Rule) (units : List RuleUnit) (found journal : Option Data) (sessions : List (List Request)) → sessions_asked rules units found journal ≡ Some sessions → None ≡ first sessions → sessions ≡ []
+no_request rules units found journal sessions e none = elim (asked rules units found journal sessions e) [
   | nothing is ↦ is
   | one_call call ↦ let some : None ≡ Some (plain_call call.rule.name) = none ∙ ap first call.are in absurd (cc)
 ]
@@ -148,24 +115,24 @@ no_request rules units whole sessions e none = elim (asked rules units whole ses
 pub record IsOnly (rules : List Rule) (sessions : List (List Request)) (request : Request) : Type 0 where
   pub rule : Rule
   pub is_only : rules ≡ rule ∷ []
-  pub is_bare : only_adds rule ≡ true
+  pub is_built : is_built_rule rule ≡ true
   pub is_plain : request ≡ plain_call rule.name
   pub is_all : sessions ≡ (request ∷ []) ∷ []
 
-pub one_request : (rules : List Rule) (units : List RuleUnit) (whole : Data) (sessions : List (List Request)) (request : Request) → sessions_asked rules units whole ≡ Some sessions → Some request ≡ first sessions → IsOnly rules sessions request
-one_request rules units whole sessions request e some = elim (asked rules units whole sessions e) [
+pub one_request : (rules : List Rule) (units : List RuleUnit) (found journal : Option Data) (sessions : List (List Request)) (request : Request) → sessions_asked rules units found journal ≡ Some sessions → Some request ≡ first sessions → IsOnly rules sessions request
+one_request rules units found journal sessions request e some = elim (asked rules units found journal sessions e) [
   | nothing is ↦ let none : Some request ≡ None = some ∙ ap first is in absurd (cc)
   | one_call call ↦
       let same : Some request ≡ Some (plain_call call.rule.name) = some ∙ ap first call.are in
       let is : request ≡ plain_call call.rule.name = cc in
-      record { rule = call.rule; is_only = call.is_only; is_bare = call.is_bare; is_plain = is; is_all = call.are ∙ ap (λ (r : Request). (r ∷ []) ∷ []) (sym is) }
+      record { rule = call.rule; is_only = call.is_only; is_built = call.is_built; is_plain = is; is_all = call.are ∙ ap (λ (r : Request). (r ∷ []) ∷ []) (sym is) }
 ]
 
 -- It calls the first rule of the set.
 pub calls_first : (rules : RuleSet) (sessions : List (List Request)) (request : Request) → IsOnly rules.rules sessions request → rule_named rules request.call ≡ Some 0
 calls_first rules sessions request only =
     let call : request.call ≡ only.rule.name = ap (λ (r : Request). r.call) only.is_plain in
-    rw (only.is_only, call, is_text only.rule.name only.rule.name refl) refl
+    rw (only.is_only, call, same_text-itself only.rule.name) refl
 
 -- It has no arguments.
 pub no_arguments : (rules : List Rule) (sessions : List (List Request)) (request : Request) → IsOnly rules sessions request → request.args ≡ no_args
@@ -176,7 +143,7 @@ pub can_run : (m : Metamodel) (g : Graph) (rules : List Rule) (units : List Rule
 can_run m g rules units sessions request only sound set =
     let first : slice_get rules 0 ≡ Some only.rule = ap (λ (rs : List Rule). slice_get rs 0) only.is_only in
     let has = All-at (λ (rule : Rule). IsRule m rule × IsSmallRule rule) rules 0 only.rule set.are_rules first in
-    rw first (runnable m g only.rule sound has.0 has.1 only.is_bare)
+    rw first (runnable m g only.rule sound has.0 has.1 only.is_built)
 
 -- ---- bytes that were read
 
@@ -191,14 +158,14 @@ all_left (Some bytes) Rest read whole = sym whole.0
 
 -- ---- what is given for an input
 
-pub given_problems : (bytes : List ℕ) (held : Contents) (input : Input) (text : List ℕ) → IsInput bytes held input → text ≡ problems_text (arc_value input.graph.meta) input.graph.graph → Gives Validate bytes None text
+pub given_problems : (bytes : List ℕ) (held : Contents) (input : Input) (text : List ℕ) → IsInput bytes held input → text ≡ problems_text (arc_value input.graph.meta) input.graph.graph → IsOutput Validate bytes None text
 given_problems bytes held input text is told = (held, input.syntax, input.sessions, refl, is.is_built, told ∙ ap (λ (m : Metamodel). problems_text m input.graph.graph) is.same_meta ∙ ap (problems_text held.meta) is.same_graph)
 
-pub given_rules : (bytes : List ℕ) (held : Contents) (input : Input) (text : List ℕ) → IsInput bytes held input → text ≡ canonical_text input.syntax.definitions → Gives Check bytes None text
+pub given_rules : (bytes : List ℕ) (held : Contents) (input : Input) (text : List ℕ) → IsInput bytes held input → text ≡ canonical_text input.syntax.definitions → IsOutput Check bytes None text
 given_rules bytes held input text is told = (held, input.syntax, input.sessions, refl, is.is_built, told)
 
 pub given_report : (bytes : List ℕ) (held : Contents) (input : Input) (report : Report) (text : List ℕ) → IsInput bytes held input →
-    IsSerialReport input.rules input.graph.graph input.sessions report → text ≡ report_text input.rules report → Gives Apply bytes (Some report) text
+    IsSerialReport input.rules input.graph.graph input.sessions report → text ≡ report_text input.rules report → IsOutput Apply bytes (Some report) text
 given_report bytes held input report text is serial told = (
   input.rules,
   report,

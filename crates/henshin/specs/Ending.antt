@@ -5,7 +5,7 @@ use Rattle.hs_session.specs.declared.report.Report.{Report}
 use Rattle.henshin.specs.declared.status.Status.{Status}
 use Rattle.henshin.specs.declared.status.Status.TheVariants as status
 use Rattle.henshin.specs.declared.words.Command.{Command}
-use Rattle.henshin.specs.Served.{Gives}
+use Rattle.henshin.specs.Served.{IsOutput}
 
 -- The run came to its writing.
 abbrev pub IsWritten : Status → Type 0
@@ -42,5 +42,5 @@ pub record IsRun (command : Command) (ending : Status) (report : Option Report) 
   pub bytes : List ℕ
   pub text : List ℕ
   pub all_that_was_left : IfSome left (λ told. told ≡ bytes)
-  pub gives : Gives command bytes report text
+  pub gives : IsOutput command bytes report text
   pub is_written : Writes ending text old new

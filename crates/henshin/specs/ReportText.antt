@@ -3,7 +3,6 @@ use Rattle.std.specs.Prelude.{ℕ, List, [], ◌∷◌, ◌++◌, map, codes, sl
 use Rattle.std.specs.List.{flat_map, enumerate_from}
 use Rattle.std.specs.Option.{option_map, unwrap_or}
 use Rattle.serde_json.specs.Data.{Data, boolean, number, unsigned, string, object, no_members}
-use Rattle.serde_json.specs.Written.{compact_text}
 use Rattle.hs_expr.specs.declared.value.Value.{Value}
 use Rattle.hs_types.specs.declared.entry.Entry.{Entry}
 use Rattle.hs_types.specs.declared.entry.ExtensionNames.{ExtensionNames}
@@ -24,7 +23,7 @@ use Rattle.hs_session.specs.declared.report.Reply.{Reply}
 use Rattle.hs_session.specs.declared.report.Report.{Report}
 use Rattle.hs_session.specs.declared.report.Word.{Word}
 use Rattle.hs_session.specs.declared.report.Word.TheVariants as word
-use Rattle.hs_model.specs.Written.{Member, with_members, object_data, list_data, value_data, class_name, attrs_data, graph_data}
+use Rattle.hs_json_model.specs.Written.{Member, attrs_data, class_name, graph_data, line_of, lines_of, list_data, object_data, value_data, with_members}
 
 abbrev pub number_data : ℕ → Data
 number_data n = number (unsigned n)
@@ -99,13 +98,6 @@ reply_members r =
 
 abbrev pub reply_data : Reply → Data
 reply_data r = object_data (reply_members r)
-
--- A value's compact text, and the end of its line.
-abbrev pub line_of : Data → List ℕ
-line_of d = compact_text d ++ 10 ∷ []
-
-abbrev pub lines_of : List Data → List ℕ
-lines_of ds = flat_map line_of ds
 
 abbrev pub report_text : RuleSet → Report → List ℕ
 report_text rules r =

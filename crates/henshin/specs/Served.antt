@@ -5,8 +5,8 @@ use Rattle.hs_text.specs.Canonical.{canonical_text}
 use Rattle.hs_types.specs.declared.request.Request.{Request}
 use Rattle.hs_types.specs.declared.unit.RuleSet.{RuleSet}
 use Rattle.hs_types.specs.Journal.{meta_of}
-use Rattle.hs_bundle.specs.Problems.{text_of as problems_text}
-use Rattle.hs_bundle.specs.Reading.{Contents}
+use Rattle.hs_json.specs.Problems.{problems_text}
+use Rattle.hs_json.specs.Reading.{Contents}
 use Rattle.hs_check.specs.Meaning.{IsMeant}
 use Rattle.hs_input.specs.Input.{IsBuilt}
 use Rattle.hs_session.specs.declared.report.Report.{Report}
@@ -26,7 +26,7 @@ pub record IsServed (bytes : List ℕ) (rules : RuleSet) (report : Report) : Typ
   pub is_serial : IsSerialReport rules held.graph sessions report
 
 -- `apply` gives the serial report and its text, `validate` the problems of the graph, `check` the canonical text of the rules.
-abbrev pub Gives : Command → List ℕ → Option Report → List ℕ → Type 0
-Gives Apply bytes report text = (rules : RuleSet) × (served : Report) × (report ≡ Some served) × IsServed bytes rules served × (text ≡ report_text rules served)
-Gives Validate bytes report text = (held : Contents) × (syntax : Syntax) × (sessions : List (List Request)) × (report ≡ None) × IsBuilt bytes held syntax sessions × (text ≡ problems_text held.meta held.graph)
-Gives Check bytes report text = (held : Contents) × (syntax : Syntax) × (sessions : List (List Request)) × (report ≡ None) × IsBuilt bytes held syntax sessions × (text ≡ canonical_text syntax.definitions)
+abbrev pub IsOutput : Command → List ℕ → Option Report → List ℕ → Type 0
+IsOutput Apply bytes report text = (rules : RuleSet) × (served : Report) × (report ≡ Some served) × IsServed bytes rules served × (text ≡ report_text rules served)
+IsOutput Validate bytes report text = (held : Contents) × (syntax : Syntax) × (sessions : List (List Request)) × (report ≡ None) × IsBuilt bytes held syntax sessions × (text ≡ problems_text held.meta held.graph)
+IsOutput Check bytes report text = (held : Contents) × (syntax : Syntax) × (sessions : List (List Request)) × (report ≡ None) × IsBuilt bytes held syntax sessions × (text ≡ canonical_text syntax.definitions)

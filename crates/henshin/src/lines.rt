@@ -3,14 +3,14 @@
 ghost use Rattle.std.specs.Prelude.{◌≡◌, ℕ, List, [], ◌++◌, ◌∷◌, IfOk, OnOk, map, string_bytes, codes, false};
 ghost use Rattle.serde_json.specs.Data.{Data, string, no_members};
 ghost use Rattle.serde_json.specs.View.{view, members_view};
-ghost use Rattle.serde_json.specs.Written.{has_float};
 ghost use Rattle.std.specs.List.{enumerate_from};
-ghost use Rattle.hs_model.specs.Written.{with_members, object_data, list_data, value_data, class_name, feature_name, attrs_data, graph_data};
-ghost use Rattle.henshin.specs.ReportText.{number_data, arg_data, args_data, rule_name, extension_data, gone_data, match_members, change_members, outcome_members, tried_members, what_members, entry_data, word_text, outs_data, reply_data, line_of, lines_of, report_text};
+ghost use Rattle.hs_json_model.specs.Written.{with_members, object_data, list_data, value_data, class_name, feature_name, attrs_data, graph_data};
+ghost use Rattle.henshin.specs.ReportText.{number_data, arg_data, args_data, rule_name, extension_data, gone_data, match_members, change_members, outcome_members, tried_members, what_members, entry_data, word_text, outs_data, reply_data, report_text};
+ghost use Rattle.hs_json_model.specs.Written.{lines_of};
 
 use hs_expr::{List, Text, Value as Datum};
-use hs_model::{
-    Members, attrs_value, class_name, datum_value, list_value, text_value, texts_value, with_graph,
+use hs_json_model::{
+    Members, add_line, attrs_value, class_name, datum_value, list_value, text_value, texts_value, with_graph,
 };
 use hs_session::{Out, Reply, Report, Word};
 use hs_types::{
@@ -55,16 +55,6 @@ fn add_replies(alloc: Global, text: &mut String, replies: &[Reply]) -> Result<()
         add_line(alloc, text, &line)?;
     }
     Ok(())
-}
-
-/// Adds a value's compact text and the end of its line.
-fn add_line(alloc: Global, text: &mut String, value: &Value) -> Result<(), AllocError>
-    requires { has_float (view value.now) ≡ false }
-    ensures { OnOk result (string_bytes text.new ≡ string_bytes text.old ++ line_of (view value.now)) }
-{
-    let line = value.to_string(alloc)?;
-    text.push_str(line.as_str())?;
-    text.push('\n')
 }
 
 fn numbers_value(alloc: Global, numbers: &List<u32>) -> Result<Value, AllocError>

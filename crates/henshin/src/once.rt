@@ -4,7 +4,7 @@ ghost use Rattle.hs_input.specs.Refusing.{Refuses};
 ghost use Rattle.henshin.specs.Ending.{IsReadToEnd, IsRun, IsWritten};
 ghost use Rattle.henshin.specs.Words.{AreWords};
 
-use crate::reading::{ReadError, read_all};
+use crate::reading::{ReadFault, read_all};
 use crate::serving::{Answer, serve};
 use crate::status::Status;
 use crate::words::{Command, command_of};
@@ -22,7 +22,7 @@ pub const BUNDLE_BYTES: usize = 67_108_864;
 #[derive(Debug, Drop)]
 pub struct Outcome {
     pub status: Status,
-    /// There where the command is `apply` and the status is Done or WriteFault.
+    /// Present exactly if the command is `apply` and the status is `Done` or `WriteFault`.
     pub report: Option<Report>,
 }
 
@@ -37,7 +37,7 @@ pub fn once<S: Source, K: Sink>(
     ensures usage { (result.status ≡ Status.Usage) ↔ ((command : Command) → ¬ AreWords (map string_bytes words.now) command) }
     ensures untouched { result.status ≡ Status.Usage → source.new ≡ source.old }
 
-    // The source: its fault is told exactly where a read failed, and then no further read is made.
+    // The source: its fault is reported exactly if a read failed, and then no further read is made.
     ensures read_fault { result.status ≡ Status.ReadFault → (S.failed source.new ≡ true) × (S.faults source.new ≡ one_more (S.faults source.old)) }
     ensures source_well { result.status ≢ Status.ReadFault → S.faults source.new ≡ S.faults source.old }
     ensures too_long { result.status ≡ Status.TooLong → IfSome (S.left source.old) (λ bytes. BUNDLE_BYTES < length bytes) }
@@ -46,12 +46,12 @@ pub fn once<S: Source, K: Sink>(
     // The bytes: each refusal has its cause.
     ensures refused { (refusal : Refusal) → result.status ≡ Status.Refused refusal → IfSome (S.left source.old) (λ bytes. Refuses bytes refusal) }
 
-    // The sink: its fault is told exactly where a write failed, and then no further write is made.
+    // The sink: its fault is reported exactly if a write failed, and then no further write is made.
     ensures unwritten { ¬ (IsWritten result.status) → sink.new ≡ sink.old }
     ensures write_fault { result.status ≡ Status.WriteFault → (K.failed sink.new ≡ true) × (K.faults sink.new ≡ one_more (K.faults sink.old)) }
     ensures sink_well { result.status ≢ Status.WriteFault → K.faults sink.new ≡ K.faults sink.old }
 
-    // What was written: what the command gives for the bytes, or a front of it. Only `apply` reports.
+    // What was written: what the command gives for the bytes, or a prefix of it. Only `apply` reports.
     ensures served { IsWritten result.status → (command : Command) × AreWords (map string_bytes words.now) command
         × IsRun command result.status result.report (S.left source.old) (K.written sink.old) (K.written sink.new) }
     ensures unreported { ¬ (IsWritten result.status) → result.report ≡ None }
@@ -61,9 +61,9 @@ pub fn once<S: Source, K: Sink>(
     };
     let bytes = match read_all(alloc, source, BUNDLE_BYTES) {
         Ok(bytes) => bytes,
-        Err(ReadError::Failed) => return ended(Status::ReadFault),
-        Err(ReadError::TooLong) => return ended(Status::TooLong),
-        Err(ReadError::NoMemory) => return ended(Status::NoMemory),
+        Err(Failure::Fault(ReadFault::Failed)) => return ended(Status::ReadFault),
+        Err(Failure::Fault(ReadFault::TooLong)) => return ended(Status::TooLong),
+        Err(Failure::NoMemory) => return ended(Status::NoMemory),
     };
     let Answer { report, text } = match serve(alloc, command, bytes.as_slice()) {
         Ok(answer) => answer,

@@ -2,34 +2,36 @@ ghost use Rattle.std.specs.Prelude.{◌≡◌, ◌<◌, ◌≤◌, ◌≢◌, Li
 ghost use Rattle.hs_base.specs.Faults.{one_more};
 
 use hs_base::Source;
+use hs_expr::Failure;
 use std::alloc::{AllocError, Global};
 
 /// Why a source was not read to its end.
 #[derive(Clone, Copy, PartialEq, Eq, Debug)]
-pub enum ReadError {
+pub enum ReadFault {
     Failed,
     TooLong,
-    NoMemory,
 }
 
 /// How many bytes one read asks for.
 const PIECE: usize = 1 << 16;
 
 /// Reads the source to its end, or until it has given more than `most` bytes.
-pub fn read_all<S: Source>(alloc: Global, source: &mut S, most: usize) -> Result<Vec<u8>, ReadError>
+pub fn read_all<S: Source>(
+    alloc: Global,
+    source: &mut S,
+    most: usize,
+) -> Result<Vec<u8>, Failure<ReadFault>>
     ensures whole { IfOk result (λ v. IfSome (S.left source.old) (λ bytes. (v.items ≡ bytes) × (S.left source.new ≡ Some []))) }
     ensures fits { IfOk result (λ v. length v.items ≤ most) }
-    ensures too_long { result ≡ Err ReadError.TooLong → IfSome (S.left source.old) (λ bytes. most < length bytes) }
-    ensures failed { result ≡ Err ReadError.Failed → (S.failed source.new ≡ true) × (S.faults source.new ≡ one_more (S.faults source.old)) }
-    ensures well { result ≢ Err ReadError.Failed → S.faults source.new ≡ S.faults source.old }
+    ensures too_long { result ≡ Err (Failure.Fault ReadFault.TooLong) → IfSome (S.left source.old) (λ bytes. most < length bytes) }
+    ensures failed { result ≡ Err (Failure.Fault ReadFault.Failed) → (S.failed source.new ≡ true) × (S.faults source.new ≡ one_more (S.faults source.old)) }
+    ensures well { result ≢ Err (Failure.Fault ReadFault.Failed) → S.faults source.new ≡ S.faults source.old }
 {
-    match buffer(alloc) {
-        Ok(mut buffer) => read_by_pieces(alloc, source, buffer.as_mut_slice(), most),
-        Err(_) => Err(ReadError::NoMemory),
-    }
+    let mut piece = empty_piece(alloc)?;
+    read_by_pieces(alloc, source, piece.as_mut_slice(), most)
 }
 
-fn buffer(alloc: Global) -> Result<Vec<u8>, AllocError>
+fn empty_piece(alloc: Global) -> Result<Vec<u8>, AllocError>
     ensures { IfOk result (λ v. 0 < length v.items) }
 {
     vec![in alloc; 0u8; PIECE]
@@ -41,27 +43,25 @@ fn read_by_pieces<S: Source>(
     source: &mut S,
     piece: &mut [u8],
     most: usize,
-) -> Result<Vec<u8>, ReadError>
+) -> Result<Vec<u8>, Failure<ReadFault>>
     requires { 0 < length piece.old }
     ensures whole { IfOk result (λ v. IfSome (S.left source.old) (λ bytes. (v.items ≡ bytes) × (S.left source.new ≡ Some []))) }
     ensures fits { IfOk result (λ v. length v.items ≤ most) }
-    ensures too_long { result ≡ Err ReadError.TooLong → IfSome (S.left source.old) (λ bytes. most < length bytes) }
-    ensures failed { result ≡ Err ReadError.Failed → (S.failed source.new ≡ true) × (S.faults source.new ≡ one_more (S.faults source.old)) }
-    ensures well { result ≢ Err ReadError.Failed → S.faults source.new ≡ S.faults source.old }
+    ensures too_long { result ≡ Err (Failure.Fault ReadFault.TooLong) → IfSome (S.left source.old) (λ bytes. most < length bytes) }
+    ensures failed { result ≡ Err (Failure.Fault ReadFault.Failed) → (S.failed source.new ≡ true) × (S.faults source.new ≡ one_more (S.faults source.old)) }
+    ensures well { result ≢ Err (Failure.Fault ReadFault.Failed) → S.faults source.new ≡ S.faults source.old }
 {
     let mut bytes = Vec::new(alloc);
     loop {
         let Ok(count) = source.read(piece) else {
-            return Err(ReadError::Failed);
+            return Err(Failure::Fault(ReadFault::Failed));
         };
         if count == 0 {
             return Ok(bytes);
         }
         if count > most - bytes.len() {
-            return Err(ReadError::TooLong);
+            return Err(Failure::Fault(ReadFault::TooLong));
         }
-        if bytes.extend_from_slice(&piece[..count]).is_err() {
-            return Err(ReadError::NoMemory);
-        }
+        bytes.extend_from_slice(&piece[..count])?;
     }
 }

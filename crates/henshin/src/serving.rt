@@ -1,24 +1,24 @@
 //! From a bundle's bytes to what a command gives for them.
 
-ghost use Rattle.std.specs.Prelude.{ℕ, ◌≡◌, IfOk, List, Some, slice_get};
+ghost use Rattle.std.specs.Prelude.{ℕ, ◌≡◌, IfOk, List, Option, Some, slice_get};
 ghost use Rattle.std.specs.Arc.{arc_value};
 ghost use Rattle.std.specs.Option.{option_and_then, option_copied};
 ghost use Rattle.serde_json.specs.Data.{Data};
 ghost use Rattle.hs_types.specs.Journal.{meta_of};
 ghost use Rattle.hs_types.specs.UnitForm.{IsRuleSet};
-ghost use Rattle.hs_bundle.specs.Reading.{Contents};
-ghost use Rattle.hs_bundle.specs.Sound.{IsSound};
+ghost use Rattle.hs_json.specs.Reading.{Contents};
+ghost use Rattle.hs_json_model.specs.Sound.{IsSound};
 ghost use Rattle.hs_input.specs.Input.{IsInput};
 ghost use Rattle.hs_input.specs.Refusing.{Tells};
 ghost use Rattle.hs_input.specs.Sessions.{sessions_asked};
 ghost use Rattle.hs_session.specs.SerialReport.{IsSerialReport};
-ghost use Rattle.henshin.specs.Served.{Gives};
+ghost use Rattle.henshin.specs.Served.{IsOutput};
 
 use crate::lines::report_text;
 use crate::words::Command;
-use hs_bundle::problems_text;
 use hs_expr::{Failure, List, Text};
 use hs_input::{Input, Refusal, read_input};
+use hs_json::problems_text;
 use hs_session::{Report, run_nothing, run_serial};
 use hs_text::print;
 use hs_types::{ListGraph, Request, RuleSet};
@@ -35,7 +35,7 @@ pub struct Answer {
 
 /// What the command gives for the bundle that the bytes are, or why they are refused.
 pub fn serve(alloc: Global, command: Command, bytes: &[u8]) -> Result<Answer, Failure<Refusal>>
-    ensures gives { IfOk result (λ answer. Gives command bytes.now answer.report answer.text) }
+    ensures gives { IfOk result (λ answer. IsOutput command bytes.now answer.report answer.text) }
     ensures refused { Tells bytes.now result }
 {
     let input = read_input(alloc, bytes)?;
@@ -49,7 +49,7 @@ pub fn serve(alloc: Global, command: Command, bytes: &[u8]) -> Result<Answer, Fa
 /// The problems of the graph.
 fn validated(alloc: Global, input: &Input) -> Result<Answer, AllocError>
     requires sound { IsSound (arc_value input.now.graph.meta) input.now.graph.graph }
-    ensures { (bytes : List ℕ) (held : Contents) → IsInput bytes held input.now → IfOk result (λ answer. Gives Command.Validate bytes answer.report answer.text) }
+    ensures { (bytes : List ℕ) (held : Contents) → IsInput bytes held input.now → IfOk result (λ answer. IsOutput Command.Validate bytes answer.report answer.text) }
 {
     Ok(Answer {
         report: None,
@@ -59,7 +59,7 @@ fn validated(alloc: Global, input: &Input) -> Result<Answer, AllocError>
 
 /// The canonical text of the rules.
 fn checked(alloc: Global, input: &Input) -> Result<Answer, AllocError>
-    ensures { (bytes : List ℕ) (held : Contents) → IsInput bytes held input.now → IfOk result (λ answer. Gives Command.Check bytes answer.report answer.text) }
+    ensures { (bytes : List ℕ) (held : Contents) → IsInput bytes held input.now → IfOk result (λ answer. IsOutput Command.Check bytes answer.report answer.text) }
 {
     Ok(Answer {
         report: None,
@@ -72,8 +72,8 @@ fn applied(alloc: Global, input: Input) -> Result<Answer, AllocError>
     requires sound { IsSound (arc_value input.graph.meta) input.graph.graph }
     requires same_model { arc_value input.graph.meta ≡ meta_of input.rules }
     requires formed { IsRuleSet (meta_of input.rules) input.rules.rules input.rules.units }
-    requires asked { (whole : Data) × (sessions_asked input.rules.rules input.rules.units whole ≡ Some input.sessions) }
-    ensures { (bytes : List ℕ) (held : Contents) → IsInput bytes held input → IfOk result (λ answer. Gives Command.Apply bytes answer.report answer.text) }
+    requires asked { (found : Option Data) × (journal : Option Data) × (sessions_asked input.rules.rules input.rules.units found journal ≡ Some input.sessions) }
+    ensures { (bytes : List ℕ) (held : Contents) → IsInput bytes held input → IfOk result (λ answer. IsOutput Command.Apply bytes answer.report answer.text) }
 {
     let Input {
         graph,
@@ -99,7 +99,7 @@ fn ran(
     requires sound { IsSound (arc_value graph.meta) graph.graph }
     requires same_model { arc_value graph.meta ≡ meta_of rules.now }
     requires formed { IsRuleSet (meta_of rules.now) rules.now.rules rules.now.units }
-    requires asked { (whole : Data) × (sessions_asked rules.now.rules rules.now.units whole ≡ Some sessions.now) }
+    requires asked { (found : Option Data) × (journal : Option Data) × (sessions_asked rules.now.rules rules.now.units found journal ≡ Some sessions.now) }
     ensures { IfOk result (IsSerialReport rules.now graph.graph sessions.now) }
 {
     match first_request(sessions) {

@@ -1,9 +1,10 @@
 ghost use Rattle.std.specs.Prelude.{◌≡◌, IfOk, map, option_map};
 ghost use Rattle.henshin.specs.Statuses as spec;
 
-use hs_bundle::BundleFault;
 use hs_expr::Text;
+use hs_faults::Within;
 use hs_input::Refusal;
+use hs_json::BundleFault;
 use std::alloc::{AllocError, Global};
 
 /// How a run of the program ended.
@@ -11,7 +12,7 @@ use std::alloc::{AllocError, Global};
 pub enum Status {
     /// The whole text was written.
     Done,
-    /// The words are none of the program's.
+    /// The command line isn't one that the program knows.
     Usage,
     /// The source failed.
     ReadFault,
@@ -21,14 +22,14 @@ pub enum Status {
     Refused(Refusal),
     /// The sink failed.
     WriteFault,
-    /// Memory was wanting.
+    /// Out of memory.
     NoMemory,
 }
 
 impl Status {
     /// The number that the process ends with.
     pub fn number(&self) -> u8
-        ensures { result ≡ spec.number_of self.now }
+        ensures { result ≡ spec.exit_number self.now }
     {
         match self {
             Status::Done => 0,
@@ -51,13 +52,21 @@ fn refusal_number(refusal: &Refusal) -> u8
         Refusal::NoBundle(BundleFault::BadModel(_)) => 7,
         Refusal::NoBundle(BundleFault::BadGraph(_)) => 8,
         Refusal::BadText { .. } => 9,
-        Refusal::BadRule(fault) if fault.in_unit => 11,
-        Refusal::BadRule(_) => 10,
+        Refusal::BadRule(fault) => rule_number(fault.within),
         Refusal::NotBuilt => 21,
     }
 }
 
-/// The line that tells a status on standard error, without its end; none where all is well.
+fn rule_number(within: Within) -> u8
+    ensures { result ≡ spec.rule_number within }
+{
+    match within {
+        Within::Rule => 10,
+        Within::Unit => 11,
+    }
+}
+
+/// The line for standard error, without its line feed; `None` for `Done`.
 pub fn fault_line(alloc: Global, status: &Status) -> Result<Option<Text>, AllocError>
     ensures { IfOk result (λ line. line ≡ spec.fault_line status.now) }
 {

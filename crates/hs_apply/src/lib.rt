@@ -5,10 +5,8 @@
 #![tactic(auto)]
 
 mod installing;
+pub mod laws;
 mod planning;
 
 pub use installing::{Stepped, install};
 pub use planning::plan;
-
-#[cfg(test)]
-mod tests;

@@ -4,14 +4,14 @@ ghost use Rattle.hs_types.specs.Metamodel.{default_of, features_of};
 ghost use Rattle.hs_types.specs.Pattern.{is_make, made_nodes, node_is};
 ghost use Rattle.hs_types.specs.Plan.{edges_for, end_of, plan_of};
 ghost use Rattle.hs_types.specs.PlainMatch.{image};
-ghost use Rattle.hs_finding.specs.FirstMatch.{OnlyAdds, no_args};
+ghost use Rattle.hs_types.specs.Arguments.{no_args};
+ghost use Rattle.hs_types.specs.Additions.{OnlyAdds};
 ghost use Rattle.hs_apply.specs.Additions.{OnlyMakes, default_slots, made_object};
 
 use hs_expr::{List, Value};
-use hs_finding::image_of;
 use hs_types::{
-    ClassNo, End, MadeEdge, MadeObject, Mark, Match, Meta, ObjectNo, PatternEdge, PatternNode,
-    Plan, Rule, Slot,
+    ClassNo, End, MadeEdge, MadeObject, Match, Meta, ObjectNo, PatternEdge, PatternNode, Plan,
+    Rule, Slot, image_of,
 };
 use std::alloc::{AllocError, Global};
 
@@ -44,7 +44,7 @@ fn made_objects(
 {
     let mut objects = List::new(alloc);
     for node in nodes {
-        if is_make(node.mark) {
+        if node.mark.is_make() {
             objects.push(MadeObject {
                 class: node.class,
                 slots: default_slots(alloc, meta, node.class)?,
@@ -80,7 +80,7 @@ fn made_edges(
 {
     let mut made = List::new(alloc);
     for edge in edges {
-        if is_make(edge.mark) {
+        if edge.mark.is_make() {
             made.push(MadeEdge {
                 source: end_of(nodes, images, edge.source),
                 reference: edge.reference,
@@ -106,7 +106,7 @@ fn is_made(nodes: &[PatternNode], node: u16) -> bool
     ensures { result ≡ node_is is_make nodes.now node }
 {
     match nodes.get(usize::from(node)) {
-        Some(node) => is_make(node.mark),
+        Some(node) => node.mark.is_make(),
         None => false,
     }
 }
@@ -116,14 +116,5 @@ fn made_before(nodes: &[PatternNode], node: u16) -> u32
     ensures { result ≡ length (made_nodes (take node nodes.now)) }
 {
     let before = nodes.iter().take(usize::from(node));
-    before.filter(|node| is_make(node.mark)).count() as u32
-}
-
-fn is_make(mark: Mark) -> bool
-    ensures { result ≡ is_make mark }
-{
-    match mark {
-        Mark::Make => true,
-        Mark::Keep | Mark::Drop => false,
-    }
+    before.filter(|node| node.mark.is_make()).count() as u32
 }

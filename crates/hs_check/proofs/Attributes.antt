@@ -3,7 +3,7 @@ use Rattle.std.proofs.Common.{ℕ, ◌≡◌, ◌&&◌, eqb, is_some, sym, ap}
 use Rattle.std.proofs.lemmas.Bool.{eqb-true}
 use Rattle.std.proofs.lemmas.Map.Views.{any-filter_same}
 use Rattle.hs_types.specs.declared.meta.Metamodel.{Metamodel}
-use Rattle.hs_types.specs.Lists.{has}
+use Rattle.hs_expr.specs.Lists.{has}
 use Rattle.hs_types.specs.Metamodel.{attributes_of, features_of, type_of}
 
 -- A class's attribute is a feature of it that is an attribute.

@@ -2,36 +2,29 @@
 use Rattle.std.specs.Prelude.{ℕ, List, map, Option, Some, None, if◌then◌else◌, slice_get}
 use Rattle.std.specs.List.{filter, filter_map, position}
 use Rattle.std.specs.Option.{option_and_then, unwrap_or}
-use Rattle.hs_text.specs.declared.syntax.Mark.{Mark as WrittenMark}
-use Rattle.hs_text.specs.declared.syntax.Mark.TheVariants.{Preserve, Create, Delete}
 use Rattle.hs_types.specs.declared.meta.Metamodel.{Metamodel}
 use Rattle.hs_types.specs.declared.rule.Mark.{Mark}
-use Rattle.hs_types.specs.declared.rule.Mark.TheVariants.{Keep, Drop, Make}
 use Rattle.hs_types.specs.declared.rule.PatternEdge.{PatternEdge}
 use Rattle.hs_types.specs.declared.rule.PatternNode.{PatternNode}
-use Rattle.hs_types.specs.Lists.{same_text}
-use Rattle.hs_rules.specs.declared.nodes.DeclaredNode.{DeclaredNode}
-use Rattle.hs_rules.specs.declared.nodes.Home.{Home}
-use Rattle.hs_rules.specs.Names.{feature_named, number}
-use Rattle.hs_rules.specs.Statements.{Statement, Edge, Set, Where}
-use Rattle.hs_rules.specs.ThirdPass.{same_home}
+use Rattle.hs_expr.specs.Lists.{same_text}
+use Rattle.hs_faults.specs.declared.nodes.DeclaredNode.{DeclaredNode}
+use Rattle.hs_faults.specs.declared.nodes.BlockId.{BlockId}
+use Rattle.hs_faults.specs.Marks.{mark_meant}
+use Rattle.hs_faults.specs.Names.{feature_named, as_number}
+use Rattle.hs_faults.specs.Statements.{Statement, Edge, Set, Where}
+use Rattle.hs_faults.specs.StatementFaults.{same_block}
 use Rattle.hs_check.specs.Parameters.{class_meant}
-
-abbrev pub mark_meant : WrittenMark → Mark
-mark_meant Preserve = Keep
-mark_meant Create = Make
-mark_meant Delete = Drop
 
 abbrev pub node_meant : Metamodel → DeclaredNode → PatternNode
 node_meant m node = record { name = node.name.text; class = class_meant m node.class.text; mark = mark_meant node.mark }
 
 -- The nodes that one part of the rule declares, in written order.
-abbrev pub nodes_in : Metamodel → List DeclaredNode → Home → List PatternNode
-nodes_in m declared part = map (node_meant m) (filter (λ node. same_home part node.home) declared)
+abbrev pub nodes_in : Metamodel → List DeclaredNode → BlockId → List PatternNode
+nodes_in m declared part = map (node_meant m) (filter (λ node. same_block part node.block) declared)
 
 -- The number of the node of this name: its place among those that a part of the rule may name.
 abbrev pub node_found : List PatternNode → List ℕ → Option ℕ
-node_found nodes name = option_and_then number (position (λ node. same_text name node.name) nodes)
+node_found nodes name = option_and_then as_number (position (λ node. same_text name node.name) nodes)
 
 abbrev pub node_number : List PatternNode → List ℕ → ℕ
 node_number nodes name = unwrap_or (node_found nodes name) 0
@@ -53,11 +46,11 @@ edge_meant m nodes mark source target reference = record {
 }
 
 -- The edge that a statement means, if it is an edge of this part of the rule.
-abbrev pub edge_in : Metamodel → List PatternNode → Home → Statement → Option PatternEdge
-edge_in m nodes part (Edge home mark source target reference) = if same_home part home then Some (edge_meant m nodes (mark_meant mark) source.text target.text reference.text) else None
+abbrev pub edge_in : Metamodel → List PatternNode → BlockId → Statement → Option PatternEdge
+edge_in m nodes part (Edge home mark source target reference) = if same_block part home then Some (edge_meant m nodes (mark_meant mark) source.text target.text reference.text) else None
 edge_in m nodes part (Set home node attribute value) = None
 edge_in m nodes part (Where home word test) = None
 
 -- The edges of one part of the rule, in written order. The part may name these nodes.
-abbrev pub edges_in : Metamodel → List PatternNode → List Statement → Home → List PatternEdge
-edges_in m nodes statements part = filter_map (edge_in m nodes part) statements
+abbrev pub edges_of_part : Metamodel → List PatternNode → List Statement → BlockId → List PatternEdge
+edges_of_part m nodes statements part = filter_map (edge_in m nodes part) statements

@@ -3,7 +3,9 @@ pub mod Elements
 pub mod Expressions
 pub mod Slots
 pub mod Rules
+pub mod Counts
 pub mod Units
+pub mod Resolution
 pub mod Meaning
 pub mod Samples
 pub mod SetSamples

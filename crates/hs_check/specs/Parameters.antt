@@ -10,7 +10,7 @@ use Rattle.hs_types.specs.declared.rule.Direction.TheVariants.{In, Out}
 use Rattle.hs_types.specs.declared.rule.Param.{Param}
 use Rattle.hs_types.specs.declared.rule.ParamKind.{ParamKind}
 use Rattle.hs_types.specs.declared.rule.ParamKind.TheVariants.{Data, Object}
-use Rattle.hs_rules.specs.Names.{class_named, data_named}
+use Rattle.hs_faults.specs.Names.{class_number, data_named}
 
 abbrev pub direction_meant : WrittenDirection → Direction
 direction_meant written.In = In
@@ -18,7 +18,7 @@ direction_meant written.Out = Out
 
 -- The class of this name, by its number.
 abbrev pub class_meant : Metamodel → List ℕ → ℕ
-class_meant m name = unwrap_or (class_named m name) 0
+class_meant m name = unwrap_or (class_number m name) 0
 
 -- A parameter is for data of a kind, or else for an object of a class.
 abbrev pub kind_meant : Metamodel → List ℕ → ParamKind

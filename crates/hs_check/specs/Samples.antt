@@ -1,5 +1,5 @@
 -- Rules over the small bank, and what they mean.
-use Rattle.std.specs.Prelude.{ℕ, List, [], ◌∷◌, codes}
+use Rattle.std.specs.Prelude.{ℕ, List, [], ◌∷◌, codes, refl}
 use Rattle.hs_expr.specs.declared.Expr.{Expr}
 use Rattle.hs_expr.specs.declared.Expr.TheVariants as expr
 use Rattle.hs_expr.specs.declared.Kind.TheVariants as sort
@@ -20,17 +20,17 @@ use Rattle.hs_types.specs.declared.rule.ParamKind.TheVariants.{Data, Object}
 use Rattle.hs_types.specs.declared.rule.PatternEdge.{PatternEdge}
 use Rattle.hs_types.specs.declared.rule.PatternNode.{PatternNode}
 use Rattle.hs_types.specs.declared.rule.SetItem.{SetItem}
-use Rattle.hs_rules.specs.Samples.{param, place, rule, word}
+use Rattle.hs_faults.specs.Samples.{param, place, rule_definition, word}
 
 -- All words stand in column 0: what a text means doesn't depend on where its words stand.
-abbrev pub account : List ℕ → Element
-account name = element.Node (word 0 name) (word 0 (codes "Account"))
+abbrev pub account_node : List ℕ → Element
+account_node name = element.Node (word 0 name) (word 0 (codes "Account"))
 
-abbrev pub joined : List ℕ → List ℕ → Element
-joined source target = element.Edge (word 0 source) (word 0 target) (word 0 (codes "accounts"))
+abbrev pub accounts_edge : List ℕ → List ℕ → Element
+accounts_edge source target = element.Edge (word 0 source) (word 0 target) (word 0 (codes "accounts"))
 
 abbrev pub balance_set : List ℕ → List ℕ → Simple
-balance_set name other = simple.Set (word 0 name) (word 0 (codes "balance")) (record { pieces = piece.Slot (word 0 other) (word 0 (codes "balance")) ∷ [] })
+balance_set name other = simple.Set (word 0 name) (word 0 (codes "balance")) (record { pieces = piece.Slot (word 0 other) (word 0 (codes "balance")) ∷ []; one = refl })
 
 -- rule hiring(in a: Account, in n: int, out c: Account) {
 --   forbid { node d: Account; edge d -> a: accounts; }
@@ -42,15 +42,15 @@ balance_set name other = simple.Set (word 0 name) (word 0 (codes "balance")) (re
 --   set c.balance = n;
 -- }
 abbrev pub hiring : Definition
-hiring = rule (codes "open")
+hiring = rule_definition (codes "open")
     (param given.In 0 (codes "a") (codes "Account") ∷ param given.In 0 (codes "n") (codes "int") ∷ param given.Out 0 (codes "c") (codes "Account") ∷ [])
-    (item.Forbid (account (codes "d") ∷ joined (codes "d") (codes "a") ∷ [])
-    ∷ item.Simple (simple.Marked Preserve (account (codes "a")))
-    ∷ item.Multi (simple.Marked Preserve (account (codes "b")) ∷ simple.Marked Delete (joined (codes "a") (codes "b")) ∷ balance_set (codes "b") (codes "a") ∷ [])
-    ∷ item.Simple (simple.Marked Create (account (codes "c")))
-    ∷ item.Simple (simple.Marked Create (joined (codes "a") (codes "c")))
-    ∷ item.Simple (simple.Where (place 0) (record { pieces = piece.Slot (word 0 (codes "a")) (word 0 (codes "balance")) ∷ piece.Name (word 0 (codes "n")) ∷ piece.Binary Greater (place 0) ∷ [] }))
-    ∷ item.Simple (simple.Set (word 0 (codes "c")) (word 0 (codes "balance")) (record { pieces = piece.Name (word 0 (codes "n")) ∷ [] }))
+    (item.Forbid (account_node (codes "d") ∷ accounts_edge (codes "d") (codes "a") ∷ [])
+    ∷ item.Simple (simple.Marked Preserve (account_node (codes "a")))
+    ∷ item.Multi (simple.Marked Preserve (account_node (codes "b")) ∷ simple.Marked Delete (accounts_edge (codes "a") (codes "b")) ∷ balance_set (codes "b") (codes "a") ∷ [])
+    ∷ item.Simple (simple.Marked Create (account_node (codes "c")))
+    ∷ item.Simple (simple.Marked Create (accounts_edge (codes "a") (codes "c")))
+    ∷ item.Simple (simple.Where (place 0) (record { pieces = piece.Slot (word 0 (codes "a")) (word 0 (codes "balance")) ∷ piece.Name (word 0 (codes "n")) ∷ piece.Binary Greater (place 0) ∷ []; one = refl }))
+    ∷ item.Simple (simple.Set (word 0 (codes "c")) (word 0 (codes "balance")) (record { pieces = piece.Name (word 0 (codes "n")) ∷ []; one = refl }))
     ∷ [])
 
 -- What the parts of these come to.
@@ -60,8 +60,8 @@ an_account name mark = record { name = name; class = 1; mark = mark }
 abbrev pub an_edge : Mark → ℕ → ℕ → PatternEdge
 an_edge mark source target = record { source = source; reference = 0; target = target; mark = mark }
 
-abbrev pub balance_of : ℕ → Expr
-balance_of n = expr.Slot (record { node = n; attribute = 1 })
+abbrev pub balance_slot : ℕ → Expr
+balance_slot n = expr.Slot (record { node = n; attribute = 1 })
 
 abbrev pub balance_gets : ℕ → Expr → SetItem
 balance_gets n value = record { node = n; attribute = 1; value = value }

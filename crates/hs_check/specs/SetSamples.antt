@@ -1,4 +1,4 @@
--- Small rule sets over the small bank, to try their definitions on.
+-- Small rule sets over the small small_bank, to try their definitions on.
 use Rattle.std.specs.Prelude.{ℕ, List, [], ◌∷◌, pos, codes}
 use Rattle.hs_expr.specs.declared.Kind.TheVariants as sort
 use Rattle.hs_expr.specs.declared.Value.TheVariants as value
@@ -46,15 +46,15 @@ params_of_pay = parameter In (codes "into") (Object 1) ∷ parameter In (codes "
 abbrev pub pay : RuleUnit
 pay = sequence (codes "pay") params_of_pay []
 
--- unit run(in a: Account, in word: text, out o: Client) { pay(into = a, sum = 5, paid > o) }
+-- unit run_unit(in a: Account, in word: text, out o: Client) { pay(into = a, sum = 5, paid > o) }
 abbrev pub params_of_run : List Param
 params_of_run = parameter In (codes "a") (Object 1) ∷ parameter In (codes "word") (Data sort.Text) ∷ parameter Out (codes "o") (Object 0) ∷ []
 
 abbrev pub binds_of_run : List Bind
 binds_of_run = give_name (codes "into") (codes "a") ∷ give_int (codes "sum") 5 ∷ Take (codes "paid") (codes "o") ∷ []
 
-abbrev pub run : RuleUnit
-run = sequence (codes "run") params_of_run (unit_call 1 binds_of_run ∷ [])
+abbrev pub run_unit : RuleUnit
+run_unit = sequence (codes "run") params_of_run (unit_call 1 binds_of_run ∷ [])
 
 -- A unit of this name that calls the unit at this place.
 abbrev pub calling : List ℕ → ℕ → RuleUnit

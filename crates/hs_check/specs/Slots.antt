@@ -12,7 +12,7 @@ use Rattle.hs_types.specs.declared.rule.SlotKind.TheVariants.{Attribute}
 use Rattle.hs_types.specs.Metamodel.{features_of, type_of}
 use Rattle.hs_types.specs.Pattern.{is_left}
 use Rattle.hs_types.specs.RuleForm.{is_read, is_set}
-use Rattle.hs_rules.specs.Names.{number}
+use Rattle.hs_faults.specs.Names.{as_number}
 
 -- The slot of attribute a at node n.
 abbrev pub slot_with : ℕ → ℕ → Bool → PatternSlot
@@ -31,13 +31,13 @@ abbrev pub slots_among : Metamodel → List SlotRead → List SetItem → ℕ �
 slots_among m reads sets n features = map (slot_at sets n) (filter (is_used reads sets n) (filter (λ f. is_some (type_of m f)) features))
 
 -- The slots of a left node that are read or set, in the order of its class.
-abbrev pub slots_at : Metamodel → List SlotRead → List SetItem → ℕ → PatternNode → List PatternSlot
-slots_at m reads sets n node = if is_left node.mark then slots_among m reads sets n (features_of m node.class) else []
+abbrev pub slots_at_node : Metamodel → List SlotRead → List SetItem → ℕ → PatternNode → List PatternSlot
+slots_at_node m reads sets n node = if is_left node.mark then slots_among m reads sets n (features_of m node.class) else []
 
 -- The slots of the node at this place, which is its number.
-abbrev pub slots_of : Metamodel → List SlotRead → List SetItem → ℕ → PatternNode → List PatternSlot
-slots_of m reads sets place node = option_map_or (λ n. slots_at m reads sets n node) (number place) []
+abbrev pub slots_at_place : Metamodel → List SlotRead → List SetItem → ℕ → PatternNode → List PatternSlot
+slots_at_place m reads sets place node = option_map_or (λ n. slots_at_node m reads sets n node) (as_number place) []
 
 -- The slots of these nodes, node by node; the first node has this place.
 abbrev pub slots_from : Metamodel → List SlotRead → List SetItem → ℕ → List PatternNode → List PatternSlot
-slots_from m reads sets first nodes = each_from (slots_of m reads sets) first nodes
+slots_from m reads sets first nodes = each_from (slots_at_place m reads sets) first nodes

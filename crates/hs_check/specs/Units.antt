@@ -27,9 +27,9 @@ use Rattle.hs_types.specs.declared.unit.Callee.TheVariants as callee
 use Rattle.hs_types.specs.declared.unit.Count.{Count}
 use Rattle.hs_types.specs.declared.unit.Count.TheVariants as count
 use Rattle.hs_types.specs.declared.unit.Unit.{Unit as UnitMeant}
-use Rattle.hs_types.specs.Lists.{same_text}
-use Rattle.hs_rules.specs.Names.{number}
-use Rattle.hs_rules.specs.UnitFaults.{rules_of, units_of}
+use Rattle.hs_expr.specs.Lists.{same_text}
+use Rattle.hs_faults.specs.Names.{as_number}
+use Rattle.hs_faults.specs.UnitFaults.{rules_of, units_of}
 use Rattle.hs_check.specs.declared.units.Callees.{Callees}
 use Rattle.hs_check.specs.Parameters.{params_meant}
 
@@ -39,18 +39,18 @@ callees definitions = record { rules = map (λ rule. rule.name.text) (rules_of d
 
 -- The number of this name among these.
 abbrev pub place_among : List (List ℕ) → List ℕ → Option ℕ
-place_among names name = option_and_then number (position (same_text name) names)
+place_among names name = option_and_then as_number (position (same_text name) names)
 
 -- The rule of this name, or else the unit.
 abbrev pub callee_meant : Callees → List ℕ → Callee
 callee_meant known name = option_map_or callee.Rule (place_among known.rules name) (callee.Unit (unwrap_or (place_among known.units name) 0))
 
-abbrev pub signed : Bool → ℤ → ℤ
-signed minus n = if minus then neg_ℤ n else n
+abbrev pub with_sign : Bool → ℤ → ℤ
+with_sign minus n = if minus then neg_ℤ n else n
 
 -- What is given to a parameter: a value, or what has this name in the unit.
 abbrev pub atom_meant : WrittenAtom → Atom
-atom_meant (written_atom.Int minus n span) = atom.Value (value.Int (signed minus n))
+atom_meant (written_atom.Int minus n span) = atom.Value (value.Int (with_sign minus n))
 atom_meant (written_atom.Text text span) = atom.Value (value.Text text)
 atom_meant (written_atom.Bool truth span) = atom.Value (value.Bool truth)
 atom_meant (written_atom.Name name) = atom.Name name.text

@@ -1,18 +1,16 @@
 //! The parts of a rule: the kernel, forbid and require blocks, and multi blocks.
 
 ghost use Rattle.std.specs.Prelude.{◌≡◌, IfOk, length};
-ghost use Rattle.std.specs.List.{All};
-ghost use Rattle.hs_rules.specs.Depths.{IsWhole};
 ghost use Rattle.hs_check.specs.Rules as spec;
 
-use crate::elements::{edges_in, nodes_in};
-use crate::numbered::Numbered;
-use crate::open_nodes::OpenNodes;
-use crate::saying::{sets_in, wheres_in};
-use crate::sayings::Sayings;
+use crate::contents::RuleContents;
+use crate::elements::{edges_of_part, nodes_in};
+use crate::expressions::{sets_in, wheres_in};
+use crate::number_scope::NumberScope;
 use crate::slots::{add_reads_in, slots_from};
+use crate::visible_nodes::VisibleNodes;
 use hs_expr::{Expr, List};
-use hs_rules::Home;
+use hs_faults::BlockId;
 use hs_types::{Meta, Multi, Part, PatternEdge, PatternNode, SetItem, Shape};
 use std::alloc::{AllocError, Global};
 
@@ -25,56 +23,54 @@ pub struct Block {
     pub sets: List<SetItem>,
 }
 
-/// A forbid or require block, behind these nodes of the kernel.
+/// A forbid or require block, after these nodes of the kernel.
 pub fn part_meant(
     alloc: Global,
     meta: &Meta,
-    said: &Sayings<'_>,
+    contents: &RuleContents<'_>,
     kernel: &[PatternNode],
-    part: Home,
+    part: BlockId,
 ) -> Result<Part, AllocError>
-    ensures { IfOk result (λ meant. meant ≡ spec.part_meant meta.now said.now kernel.now part) }
+    ensures { IfOk result (λ meant. meant ≡ spec.part_meant meta.now contents.now kernel.now part) }
 {
-    let nodes = nodes_in(alloc, meta, said.nodes.as_slice(), part)?;
-    let open = OpenNodes::new(kernel, nodes.as_slice());
-    let edges = edges_in(alloc, meta, &open, said.statements.as_slice(), part)?;
+    let nodes = nodes_in(alloc, meta, contents.nodes.as_slice(), part)?;
+    let open = VisibleNodes::new(kernel, nodes.as_slice());
+    let edges = edges_of_part(alloc, meta, &open, contents.statements.as_slice(), part)?;
     Ok(Part { nodes, edges })
 }
 
-/// The kernel or a multi block, behind these nodes.
+/// The kernel or a multi block, after these nodes.
 pub fn block_meant(
     alloc: Global,
     meta: &Meta,
-    said: &Sayings<'_>,
+    contents: &RuleContents<'_>,
     before: &[PatternNode],
-    part: Home,
+    part: BlockId,
 ) -> Result<Block, AllocError>
-    requires whole { All IsWhole said.now.statements }
-    ensures { IfOk result (λ block. block ≡ spec.block_meant meta.now said.now before.now part) }
+    ensures { IfOk result (λ block. block ≡ spec.block_meant meta.now contents.now before.now part) }
 {
-    let nodes = nodes_in(alloc, meta, said.nodes.as_slice(), part)?;
-    block_with(alloc, meta, said, before, nodes, part)
+    let nodes = nodes_in(alloc, meta, contents.nodes.as_slice(), part)?;
+    block_with(alloc, meta, contents, before, nodes, part)
 }
 
 fn block_with(
     alloc: Global,
     meta: &Meta,
-    said: &Sayings<'_>,
+    contents: &RuleContents<'_>,
     before: &[PatternNode],
     nodes: List<PatternNode>,
-    part: Home,
+    part: BlockId,
 ) -> Result<Block, AllocError>
-    requires whole { All IsWhole said.now.statements }
-    ensures { IfOk result (λ block. block ≡ spec.block_with meta.now said.now before.now nodes part) }
+    ensures { IfOk result (λ block. block ≡ spec.block_with meta.now contents.now before.now nodes part) }
 {
-    let statements = said.statements.as_slice();
-    let open = OpenNodes::new(before, nodes.as_slice());
-    let names = Numbered {
+    let statements = contents.statements.as_slice();
+    let open = VisibleNodes::new(before, nodes.as_slice());
+    let names = NumberScope {
         meta,
-        params: said.params.as_slice(),
+        params: contents.params.as_slice(),
         nodes: &open,
     };
-    let edges = edges_in(alloc, meta, &open, statements, part)?;
+    let edges = edges_of_part(alloc, meta, &open, statements, part)?;
     let wheres = wheres_in(alloc, &names, statements, part)?;
     let sets = sets_in(alloc, &names, statements, part)?;
     Ok(Block {
@@ -85,18 +81,17 @@ fn block_with(
     })
 }
 
-/// The multi-rule of a block, behind these nodes of the kernel.
+/// The multi-rule of a block, after these nodes of the kernel.
 pub fn multi_meant(
     alloc: Global,
     meta: &Meta,
-    said: &Sayings<'_>,
+    contents: &RuleContents<'_>,
     kernel: &[PatternNode],
-    part: Home,
+    part: BlockId,
 ) -> Result<Multi, AllocError>
-    requires whole { All IsWhole said.now.statements }
-    ensures { IfOk result (λ multi. multi ≡ spec.multi_meant meta.now said.now kernel.now part) }
+    ensures { IfOk result (λ multi. multi ≡ spec.multi_meant meta.now contents.now kernel.now part) }
 {
-    let block = block_meant(alloc, meta, said, kernel, part)?;
+    let block = block_meant(alloc, meta, contents, kernel, part)?;
     multi_of(alloc, meta, kernel, block)
 }
 

@@ -5,14 +5,16 @@ ghost use Rattle.std.specs.Arc.{arc_value};
 ghost use Rattle.hs_expr.specs.Verdict.{verdict};
 ghost use Rattle.hs_types.specs.Metamodel.{IsMeta};
 ghost use Rattle.hs_types.specs.UnitForm.{IsRuleSet};
-ghost use Rattle.hs_rules.specs.Answers.{GivesWhere};
-ghost use Rattle.hs_rules.specs.UnitFaults.{faults_of};
+ghost use Rattle.hs_expr.specs.Steps.{GivesWhere};
+ghost use Rattle.hs_faults.specs.UnitFaults.{faults_of};
+ghost use Rattle.hs_check.specs.Counts.{KeepAll};
 ghost use Rattle.hs_check.specs.Meaning.{IsMeant};
+ghost use Rattle.hs_check.specs.Resolution.{Resolve};
 
 use crate::rules::rules_meant;
 use crate::units::units_meant;
 use hs_expr::Failure;
-use hs_rules::RuleFault;
+use hs_faults::RuleFault;
 use hs_text::Syntax;
 use hs_types::{Meta, RuleSet};
 use std::alloc::{AllocError, Global};
@@ -21,7 +23,9 @@ use std::sync::Arc;
 /// The rules and the units that a text means over the metamodel, which the set shares; or the text's
 /// first fault: all rules come before all units, and of each the parts stand in written order. The
 /// limits of rules and units are among the faults. Over a sound metamodel the set is well formed, so
-/// nothing has to test it again.
+/// nothing has to test it again. Each condition and each set of the text is in the set, and the
+/// classes, nodes, references and attributes that parameters, declarations, edges and sets name are
+/// found, and the rules and units that calls name.
 pub fn check(
     alloc: Global,
     meta: &Arc<Meta>,
@@ -30,18 +34,24 @@ pub fn check(
     ensures set { GivesWhere (IsMeant (arc_value meta.now) syntax.now.definitions) result (verdict (faults_of (arc_value meta.now) syntax.now.definitions)) }
     ensures meta { IfOk result (λ set. arc_value set.meta ≡ arc_value meta.now) }
     ensures formed { IsMeta (arc_value meta.now) → IfOk result (λ set. IsRuleSet (arc_value meta.now) set.rules set.units) }
+    ensures whole { IfOk result (λ set. KeepAll syntax.now.definitions set.rules) }
+    ensures found { IfOk result (λ set. Resolve (arc_value meta.now) syntax.now.definitions) }
 {
-    hs_rules::check(alloc, meta, syntax)?;
+    hs_faults::check(alloc, meta, syntax)?;
     let set = set_meant(alloc, meta, syntax)?;
     Ok(set)
 }
 
-#[tactic(auto, using(hs_rules::proofs::Following::all_from))]
+#[tactic(auto, using(hs_expr::proofs::Lists::all_from_recursion))]
 fn set_meant(alloc: Global, meta: &Arc<Meta>, syntax: &Syntax) -> Result<RuleSet, AllocError>
     ensures set { IfOk result (IsMeant (arc_value meta.now) syntax.now.definitions) }
     ensures meta { IfOk result (λ set. arc_value set.meta ≡ arc_value meta.now) }
     ensures formed { verdict (faults_of (arc_value meta.now) syntax.now.definitions) ≡ Ok tt → IsMeta (arc_value meta.now)
         → IfOk result (λ set. IsRuleSet (arc_value meta.now) set.rules set.units) }
+    ensures whole { verdict (faults_of (arc_value meta.now) syntax.now.definitions) ≡ Ok tt
+        → IfOk result (λ set. KeepAll syntax.now.definitions set.rules) }
+    ensures found { verdict (faults_of (arc_value meta.now) syntax.now.definitions) ≡ Ok tt
+        → IfOk result (λ set. Resolve (arc_value meta.now) syntax.now.definitions) }
 {
     let definitions = syntax.definitions.as_slice();
     Ok(RuleSet {

@@ -1,19 +1,20 @@
 //! What nodes and edges mean, part by part of a rule.
 
 ghost use Rattle.std.specs.Prelude.{◌≡◌, ◌++◌, ◌∷◌, [], IfOk, OnOk};
+ghost use Rattle.hs_faults.specs.Marks.{mark_meant};
 ghost use Rattle.hs_check.specs.Elements as spec;
 
-use crate::open_nodes::OpenNodes;
 use crate::parameters::class_meant;
+use crate::visible_nodes::VisibleNodes;
 use hs_expr::List;
-use hs_rules::statements::{Saying, Statement};
-use hs_rules::{DeclaredNode, Home, feature_named, same_home};
+use hs_faults::statements::{Statement, StatementKind};
+use hs_faults::{BlockId, DeclaredNode, feature_named, same_block};
 use hs_text::Mark as WrittenMark;
 use hs_types::{FeatureNo, Mark, Meta, PatternEdge, PatternNode};
 use std::alloc::{AllocError, Global};
 
 fn mark_meant(mark: WrittenMark) -> Mark
-    ensures { result ≡ spec.mark_meant mark }
+    ensures { result ≡ mark_meant mark }
 {
     match mark {
         WrittenMark::Preserve => Mark::Keep,
@@ -37,11 +38,11 @@ fn add_node(
     meta: &Meta,
     nodes: &mut List<PatternNode>,
     node: &DeclaredNode,
-    part: Home,
+    part: BlockId,
 ) -> Result<(), AllocError>
     ensures { OnOk result (nodes.new ≡ nodes.old ++ spec.nodes_in meta.now (node.now ∷ []) part) }
 {
-    if same_home(part, node.home) {
+    if same_block(part, node.block) {
         nodes.push(node_meant(meta, node)?)?;
     }
     Ok(())
@@ -52,7 +53,7 @@ pub fn nodes_in(
     alloc: Global,
     meta: &Meta,
     declared: &[DeclaredNode],
-    part: Home,
+    part: BlockId,
 ) -> Result<List<PatternNode>, AllocError>
     ensures { IfOk result (λ nodes. nodes ≡ spec.nodes_in meta.now declared.now part) }
 {
@@ -64,7 +65,7 @@ pub fn nodes_in(
 }
 
 /// The number of the node of this name.
-pub fn node_number(nodes: &OpenNodes<'_>, name: &str) -> u16
+pub fn node_number(nodes: &VisibleNodes<'_>, name: &str) -> u16
     ensures { result ≡ spec.node_number nodes.now name.now }
 {
     nodes.find(name).unwrap_or(0)
@@ -73,7 +74,7 @@ pub fn node_number(nodes: &OpenNodes<'_>, name: &str) -> u16
 /// The feature of this name in the class of the node of this number.
 pub fn feature_found(
     meta: &Meta,
-    nodes: &OpenNodes<'_>,
+    nodes: &VisibleNodes<'_>,
     number: u16,
     name: &str,
 ) -> Option<FeatureNo>
@@ -83,7 +84,7 @@ pub fn feature_found(
     feature_named(meta, node.class, name)
 }
 
-pub fn feature_number(meta: &Meta, nodes: &OpenNodes<'_>, number: u16, name: &str) -> FeatureNo
+pub fn feature_number(meta: &Meta, nodes: &VisibleNodes<'_>, number: u16, name: &str) -> FeatureNo
     ensures { result ≡ spec.feature_number meta.now nodes.now number name.now }
 {
     feature_found(meta, nodes, number, name).unwrap_or(0)
@@ -91,7 +92,7 @@ pub fn feature_number(meta: &Meta, nodes: &OpenNodes<'_>, number: u16, name: &st
 
 fn edge_meant(
     meta: &Meta,
-    nodes: &OpenNodes<'_>,
+    nodes: &VisibleNodes<'_>,
     mark: Mark,
     source: &str,
     target: &str,
@@ -111,19 +112,19 @@ fn edge_meant(
 /// The edge that the statement means, if it is an edge of this part of the rule.
 fn edge_in(
     meta: &Meta,
-    nodes: &OpenNodes<'_>,
-    part: Home,
+    nodes: &VisibleNodes<'_>,
+    part: BlockId,
     statement: &Statement<'_>,
 ) -> Option<PatternEdge>
     ensures { result ≡ spec.edge_in meta.now nodes.now part statement.now }
 {
-    match statement.saying {
-        Saying::Edge {
+    match statement.kind {
+        StatementKind::Edge {
             mark,
             source,
             target,
             reference,
-        } if same_home(part, statement.home) => Some(edge_meant(
+        } if same_block(part, statement.block) => Some(edge_meant(
             meta,
             nodes,
             mark_meant(mark),
@@ -138,12 +139,12 @@ fn edge_in(
 /// Adds the edge that the statement means, if it is an edge of this part of the rule.
 fn add_edge(
     meta: &Meta,
-    nodes: &OpenNodes<'_>,
+    nodes: &VisibleNodes<'_>,
     edges: &mut List<PatternEdge>,
     statement: &Statement<'_>,
-    part: Home,
+    part: BlockId,
 ) -> Result<(), AllocError>
-    ensures { OnOk result (edges.new ≡ edges.old ++ spec.edges_in meta.now nodes.now (statement.now ∷ []) part) }
+    ensures { OnOk result (edges.new ≡ edges.old ++ spec.edges_of_part meta.now nodes.now (statement.now ∷ []) part) }
 {
     if let Some(edge) = edge_in(meta, nodes, part, statement) {
         edges.push(edge)?;
@@ -152,14 +153,14 @@ fn add_edge(
 }
 
 /// The edges of one part of the rule, which may name these nodes.
-pub fn edges_in(
+pub fn edges_of_part(
     alloc: Global,
     meta: &Meta,
-    nodes: &OpenNodes<'_>,
+    nodes: &VisibleNodes<'_>,
     statements: &[Statement<'_>],
-    part: Home,
+    part: BlockId,
 ) -> Result<List<PatternEdge>, AllocError>
-    ensures { IfOk result (λ edges. edges ≡ spec.edges_in meta.now nodes.now statements.now part) }
+    ensures { IfOk result (λ edges. edges ≡ spec.edges_of_part meta.now nodes.now statements.now part) }
 {
     let mut edges = List::new(alloc);
     for statement in statements {

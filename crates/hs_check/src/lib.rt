@@ -7,20 +7,20 @@
 
 mod block;
 mod checking;
+mod contents;
 mod elements;
 mod examples;
+mod expressions;
 mod laws;
-mod numbered;
-mod open_nodes;
+mod number_scope;
 mod parameters;
 mod rules;
-mod saying;
-mod sayings;
 mod slots;
 #[cfg(test)]
 mod tests;
 mod units;
+mod visible_nodes;
 
 pub use checking::check;
 pub use examples::{binds_tried, rule_tried, sets_tried, slots_tried, units_tried};
-pub use laws::sets_are_formed;
+pub use laws::{names_are_found, nothing_is_left_out, sets_are_formed};

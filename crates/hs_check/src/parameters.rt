@@ -4,7 +4,7 @@ ghost use Rattle.std.specs.Prelude.{◌≡◌, IfOk};
 ghost use Rattle.hs_check.specs.Parameters as spec;
 
 use hs_expr::{List, Text};
-use hs_rules::{class_named, data_named};
+use hs_faults::{class_number, data_named};
 use hs_text::{Direction as WrittenDirection, Param as WrittenParam};
 use hs_types::{ClassNo, Direction, Meta, Param, ParamKind};
 use std::alloc::{AllocError, Global};
@@ -22,7 +22,7 @@ fn direction_meant(direction: WrittenDirection) -> Direction
 pub fn class_meant(meta: &Meta, name: &Text) -> ClassNo
     ensures { result ≡ spec.class_meant meta.now name.now }
 {
-    class_named(meta, name).unwrap_or(0)
+    class_number(meta, name).unwrap_or(0)
 }
 
 fn kind_meant(meta: &Meta, word: &Text) -> ParamKind

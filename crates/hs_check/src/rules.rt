@@ -1,55 +1,53 @@
 //! The rules that a text means.
 
 ghost use Rattle.std.specs.Prelude.{◌≡◌, ◌++◌, [], IfOk, OnOk, map};
-ghost use Rattle.std.specs.List.{All, AllByRecursion, flat_map};
+ghost use Rattle.std.specs.List.{flat_map};
 ghost use Rattle.hs_expr.specs.Verdict.{each};
-ghost use Rattle.hs_text.specs.WellFormed.{IsDefinitionFine, IsItemFine};
 ghost use Rattle.hs_types.specs.RuleForm.{reads_in};
-ghost use Rattle.hs_rules.specs.Depths.{IsWhole};
-ghost use Rattle.hs_rules.specs.Faults.{rule_of};
+ghost use Rattle.hs_faults.specs.Faults.{as_rule};
 ghost use Rattle.hs_check.specs.Rules as spec;
 ghost use Rattle.hs_check.specs.Slots.{slots_from};
 
 use crate::block::{Block, block_meant, multi_meant, part_meant};
-use crate::sayings::{Sayings, sayings_of};
+use crate::contents::{RuleContents, rule_contents};
 use crate::slots::{add_reads_in, slots_from};
 use hs_expr::{List, SlotRead};
-use hs_rules::Home;
+use hs_faults::BlockId;
 use hs_text::{Definition, Item, Rule as WrittenRule};
 use hs_types::{Meta, Multi, Part, PatternNode, PatternSlot, Rule, Shape};
 use std::alloc::{AllocError, Global};
 
-fn forbids(alloc: Global, items: &[Item]) -> Result<List<Home>, AllocError>
+fn forbids(alloc: Global, items: &[Item]) -> Result<List<BlockId>, AllocError>
     ensures { IfOk result (λ homes. homes ≡ each spec.forbid_at items.now) }
 {
     let mut homes = List::new(alloc);
     for (i, item) in items.iter().enumerate() {
         if let Item::Forbid(_) = item {
-            homes.push(Home::Pattern(i))?;
+            homes.push(BlockId::Pattern(i))?;
         }
     }
     Ok(homes)
 }
 
-fn requires_of(alloc: Global, items: &[Item]) -> Result<List<Home>, AllocError>
+fn requires_of(alloc: Global, items: &[Item]) -> Result<List<BlockId>, AllocError>
     ensures { IfOk result (λ homes. homes ≡ each spec.require_at items.now) }
 {
     let mut homes = List::new(alloc);
     for (i, item) in items.iter().enumerate() {
         if let Item::Require(_) = item {
-            homes.push(Home::Pattern(i))?;
+            homes.push(BlockId::Pattern(i))?;
         }
     }
     Ok(homes)
 }
 
-fn multis(alloc: Global, items: &[Item]) -> Result<List<Home>, AllocError>
+fn multis(alloc: Global, items: &[Item]) -> Result<List<BlockId>, AllocError>
     ensures { IfOk result (λ homes. homes ≡ each spec.multi_at items.now) }
 {
     let mut homes = List::new(alloc);
     for (i, item) in items.iter().enumerate() {
         if let Item::Multi(_) = item {
-            homes.push(Home::Multi(i))?;
+            homes.push(BlockId::Multi(i))?;
         }
     }
     Ok(homes)
@@ -58,15 +56,15 @@ fn multis(alloc: Global, items: &[Item]) -> Result<List<Home>, AllocError>
 fn parts_meant(
     alloc: Global,
     meta: &Meta,
-    said: &Sayings<'_>,
+    contents: &RuleContents<'_>,
     kernel: &[PatternNode],
-    homes: &[Home],
+    homes: &[BlockId],
 ) -> Result<List<Part>, AllocError>
-    ensures { IfOk result (λ parts. parts ≡ map (spec.part_meant meta.now said.now kernel.now) homes.now) }
+    ensures { IfOk result (λ parts. parts ≡ map (spec.part_meant meta.now contents.now kernel.now) homes.now) }
 {
     let mut parts = List::new(alloc);
     for home in homes {
-        parts.push(part_meant(alloc, meta, said, kernel, *home)?)?;
+        parts.push(part_meant(alloc, meta, contents, kernel, *home)?)?;
     }
     Ok(parts)
 }
@@ -74,16 +72,15 @@ fn parts_meant(
 fn multis_at(
     alloc: Global,
     meta: &Meta,
-    said: &Sayings<'_>,
+    contents: &RuleContents<'_>,
     kernel: &[PatternNode],
-    homes: &[Home],
+    homes: &[BlockId],
 ) -> Result<List<Multi>, AllocError>
-    requires whole { All IsWhole said.now.statements }
-    ensures { IfOk result (λ multis. multis ≡ map (spec.multi_meant meta.now said.now kernel.now) homes.now) }
+    ensures { IfOk result (λ multis. multis ≡ map (spec.multi_meant meta.now contents.now kernel.now) homes.now) }
 {
     let mut multis = List::new(alloc);
     for home in homes {
-        multis.push(multi_meant(alloc, meta, said, kernel, *home)?)?;
+        multis.push(multi_meant(alloc, meta, contents, kernel, *home)?)?;
     }
     Ok(multis)
 }
@@ -92,14 +89,13 @@ fn multis_meant(
     alloc: Global,
     meta: &Meta,
     rule: &WrittenRule,
-    said: &Sayings<'_>,
+    contents: &RuleContents<'_>,
     kernel: &[PatternNode],
 ) -> Result<List<Multi>, AllocError>
-    requires whole { All IsWhole said.now.statements }
-    ensures { IfOk result (λ multis. multis ≡ map (spec.multi_meant meta.now said.now kernel.now) (each spec.multi_at rule.now.items)) }
+    ensures { IfOk result (λ multis. multis ≡ map (spec.multi_meant meta.now contents.now kernel.now) (each spec.multi_at rule.now.items)) }
 {
     let homes = multis(alloc, rule.items.as_slice())?;
-    multis_at(alloc, meta, said, kernel, homes.as_slice())
+    multis_at(alloc, meta, contents, kernel, homes.as_slice())
 }
 
 fn add_reads_of_multis(reads: &mut List<SlotRead>, multis: &[Multi]) -> Result<(), AllocError>
@@ -145,26 +141,26 @@ fn forbids_meant(
     alloc: Global,
     meta: &Meta,
     rule: &WrittenRule,
-    said: &Sayings<'_>,
+    contents: &RuleContents<'_>,
     kernel: &[PatternNode],
 ) -> Result<List<Part>, AllocError>
-    ensures { IfOk result (λ parts. parts ≡ map (spec.part_meant meta.now said.now kernel.now) (each spec.forbid_at rule.now.items)) }
+    ensures { IfOk result (λ parts. parts ≡ map (spec.part_meant meta.now contents.now kernel.now) (each spec.forbid_at rule.now.items)) }
 {
     let homes = forbids(alloc, rule.items.as_slice())?;
-    parts_meant(alloc, meta, said, kernel, homes.as_slice())
+    parts_meant(alloc, meta, contents, kernel, homes.as_slice())
 }
 
 fn needs_meant(
     alloc: Global,
     meta: &Meta,
     rule: &WrittenRule,
-    said: &Sayings<'_>,
+    contents: &RuleContents<'_>,
     kernel: &[PatternNode],
 ) -> Result<List<Part>, AllocError>
-    ensures { IfOk result (λ parts. parts ≡ map (spec.part_meant meta.now said.now kernel.now) (each spec.require_at rule.now.items)) }
+    ensures { IfOk result (λ parts. parts ≡ map (spec.part_meant meta.now contents.now kernel.now) (each spec.require_at rule.now.items)) }
 {
     let homes = requires_of(alloc, rule.items.as_slice())?;
-    parts_meant(alloc, meta, said, kernel, homes.as_slice())
+    parts_meant(alloc, meta, contents, kernel, homes.as_slice())
 }
 
 /// The rule with this kernel and these multi-rules.
@@ -172,18 +168,18 @@ fn rule_with(
     alloc: Global,
     meta: &Meta,
     rule: &WrittenRule,
-    said: Sayings<'_>,
+    contents: RuleContents<'_>,
     kernel: Block,
     multis: List<Multi>,
 ) -> Result<Rule, AllocError>
-    ensures { IfOk result (λ meant. meant ≡ spec.rule_with meta.now rule.now said.entry kernel multis) }
+    ensures { IfOk result (λ meant. meant ≡ spec.rule_with meta.now rule.now contents.entry kernel multis) }
 {
     let slots = kernel_slots(alloc, meta, &kernel, multis.as_slice())?;
-    let forbids = forbids_meant(alloc, meta, rule, &said, kernel.nodes.as_slice())?;
-    let needs = needs_meant(alloc, meta, rule, &said, kernel.nodes.as_slice())?;
+    let forbids = forbids_meant(alloc, meta, rule, &contents, kernel.nodes.as_slice())?;
+    let needs = needs_meant(alloc, meta, rule, &contents, kernel.nodes.as_slice())?;
     Ok(Rule {
         name: rule.name.text.clone()?,
-        params: said.params,
+        params: contents.params,
         shape: Shape {
             nodes: kernel.nodes,
             edges: kernel.edges,
@@ -202,23 +198,21 @@ fn rule_around(
     alloc: Global,
     meta: &Meta,
     rule: &WrittenRule,
-    said: Sayings<'_>,
+    contents: RuleContents<'_>,
     kernel: Block,
 ) -> Result<Rule, AllocError>
-    requires whole { All IsWhole said.statements }
-    ensures { IfOk result (λ meant. meant ≡ spec.rule_around meta.now rule.now said.entry kernel) }
+    ensures { IfOk result (λ meant. meant ≡ spec.rule_around meta.now rule.now contents.entry kernel) }
 {
-    let multis = multis_meant(alloc, meta, rule, &said, kernel.nodes.as_slice())?;
-    rule_with(alloc, meta, rule, said, kernel, multis)
+    let multis = multis_meant(alloc, meta, rule, &contents, kernel.nodes.as_slice())?;
+    rule_with(alloc, meta, rule, contents, kernel, multis)
 }
 
 fn rule_meant(alloc: Global, meta: &Meta, rule: &WrittenRule) -> Result<Rule, AllocError>
-    requires fine { AllByRecursion IsItemFine rule.now.items }
     ensures { IfOk result (λ meant. meant ≡ spec.rule_meant meta.now rule.now) }
 {
-    let said = sayings_of(alloc, meta, rule)?;
-    let kernel = block_meant(alloc, meta, &said, &[], Home::Kernel)?;
-    rule_around(alloc, meta, rule, said, kernel)
+    let contents = rule_contents(alloc, meta, rule)?;
+    let kernel = block_meant(alloc, meta, &contents, &[], BlockId::Kernel)?;
+    rule_around(alloc, meta, rule, contents, kernel)
 }
 
 /// Adds the rule that the definition means, if it is one.
@@ -228,8 +222,7 @@ fn add_rule(
     rules: &mut List<Rule>,
     definition: &Definition,
 ) -> Result<(), AllocError>
-    requires fine { IsDefinitionFine definition.now }
-    ensures { OnOk result (rules.new ≡ rules.old ++ map (spec.rule_meant meta.now) (rule_of definition.now)) }
+    ensures { OnOk result (rules.new ≡ rules.old ++ map (spec.rule_meant meta.now) (as_rule definition.now)) }
 {
     match definition {
         Definition::Rule(rule) => {
@@ -246,7 +239,6 @@ pub fn rules_meant(
     meta: &Meta,
     definitions: &[Definition],
 ) -> Result<List<Rule>, AllocError>
-    requires fine { All IsDefinitionFine definitions.now }
     ensures { IfOk result (λ rules. rules ≡ spec.rules_meant meta.now definitions.now) }
 {
     let mut rules = List::new(alloc);

@@ -6,7 +6,7 @@ ghost use Rattle.hs_expr.specs.Evaluation.{reads_of};
 ghost use Rattle.hs_types.specs.RuleForm.{is_read, is_set, reads_in};
 ghost use Rattle.hs_check.specs.Slots as spec;
 
-use crate::numbered::is_left;
+use crate::number_scope::is_left;
 use hs_expr::{Expr, List, SlotRead};
 use hs_types::{FeatureNo, Meta, PatternNode, PatternSlot, SetItem, SlotKind};
 use std::alloc::{AllocError, Global};
@@ -125,7 +125,7 @@ fn add_slots_of(
     place: usize,
     node: &PatternNode,
 ) -> Result<(), AllocError>
-    ensures { OnOk result (slots.new ≡ slots.old ++ spec.slots_of meta.now reads.now sets.now place node.now) }
+    ensures { OnOk result (slots.new ≡ slots.old ++ spec.slots_at_place meta.now reads.now sets.now place node.now) }
 {
     match u16::try_from(place) {
         Ok(number) if is_left(node.mark) => {
@@ -142,7 +142,7 @@ fn add_slots_of(
     }
 }
 
-/// The slots of these nodes that are read or set. They stand behind so many others.
+/// The slots of these nodes that are read or set. Their numbers go on from those before.
 pub fn slots_from(
     alloc: Global,
     meta: &Meta,

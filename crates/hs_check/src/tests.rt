@@ -490,3 +490,12 @@ unit u() loop { u(); } || nothing";
     assert!(rt; wrong.is_none(), "{wrong:?}");
     Ok(())
 }
+
+#[test]
+fn conditions_over_all_kinds_are_kept(rt: HostRuntime) -> Result<(), Fail> {
+    let table = "\
+rule mix(in n: int, in t: text, in b: bool) { preserve node a: Account; where a.balance > n; where a.name == t; where b; multi { preserve node c: Account; where c.balance < n; where c.name == t; where not b; set c.name = t; } set a.balance = n; } || mix( In n:Data(Int) In t:Data(Text) In b:Data(Bool) ) a:2:Keep 0.Attribute(0):false 0.Attribute(3):true multi( c:2:Keep 1.Attribute(0):true 1.Attribute(3):false where (1.3 Less p0) where (1.0 Equal p1) where (Not p2) set 1.0=p1 ) where (0.3 Greater p0) where (0.0 Equal p1) where p2 set 0.3=p0";
+    let wrong = first_wrong(rt.alloc(), table)?;
+    assert!(rt; wrong.is_none(), "{wrong:?}");
+    Ok(())
+}

@@ -4,8 +4,8 @@ ghost use Rattle.std.specs.Prelude.{◌≡◌, ◌++◌, IfOk, OnOk, map, true};
 ghost use Rattle.std.specs.List.{All, position};
 ghost use Rattle.std.specs.Option.{option_map};
 ghost use Rattle.hs_text.specs.WellFormed.{IsAtomFine, IsBindFine, IsBodyFine, IsCallFine, IsDefinitionFine, IsElseFine, is_literal};
-ghost use Rattle.hs_types.specs.Lists.{same_text};
-ghost use Rattle.hs_rules.specs.UnitFaults.{rules_of, unit_of, units_of};
+ghost use Rattle.hs_expr.specs.Lists.{same_text};
+ghost use Rattle.hs_faults.specs.UnitFaults.{rules_of, as_unit, units_of};
 ghost use Rattle.hs_check.specs.Units as spec;
 
 use crate::parameters::params_meant;
@@ -48,9 +48,9 @@ fn callee_meant(known: &Callees, name: &Text) -> Callee
     }
 }
 
-fn signed(minus: bool, value: i64) -> i64
+fn with_sign(minus: bool, value: i64) -> i64
     requires literal { is_literal value ≡ true }
-    ensures { result ≡ spec.signed minus value }
+    ensures { result ≡ spec.with_sign minus value }
 {
     if minus { -value } else { value }
 }
@@ -60,7 +60,7 @@ fn atom_meant(atom: &WrittenAtom) -> Result<Atom, AllocError>
     ensures { IfOk result (λ meant. meant ≡ spec.atom_meant atom.now) }
 {
     match atom {
-        WrittenAtom::Int { minus, value, .. } => Ok(Atom::Value(Value::Int(signed(
+        WrittenAtom::Int { minus, value, .. } => Ok(Atom::Value(Value::Int(with_sign(
             *minus, *value,
         )))),
         WrittenAtom::Text { value, .. } => Ok(Atom::Value(Value::Text(value.clone()?))),
@@ -99,7 +99,7 @@ fn binds_meant(alloc: Global, binds: &[WrittenBind]) -> Result<List<Bind>, Alloc
     Ok(meant)
 }
 
-#[tactic(auto, using(hs_rules::proofs::Following::all_from))]
+#[tactic(auto, using(hs_expr::proofs::Lists::all_from_recursion))]
 fn call_meant(alloc: Global, known: &Callees, call: &WrittenCall) -> Result<Call, AllocError>
     requires fine { IsCallFine call.now }
     ensures { IfOk result (λ meant. meant ≡ spec.call_meant known.now call.now) }
@@ -149,7 +149,7 @@ fn else_meant(
 }
 
 /// What a unit does.
-#[tactic(auto, using(hs_rules::proofs::Following::all_from))]
+#[tactic(auto, using(hs_expr::proofs::Lists::all_from_recursion))]
 fn body_meant(alloc: Global, known: &Callees, body: &WrittenBody) -> Result<Body, AllocError>
     requires fine { IsBodyFine body.now }
     ensures { IfOk result (λ meant. meant ≡ spec.body_meant known.now body.now) }
@@ -230,7 +230,7 @@ fn add_unit(
     definition: &Definition,
 ) -> Result<(), AllocError>
     requires fine { IsDefinitionFine definition.now }
-    ensures { OnOk result (units.new ≡ units.old ++ map (spec.unit_meant meta.now known.now) (unit_of definition.now)) }
+    ensures { OnOk result (units.new ≡ units.old ++ map (spec.unit_meant meta.now known.now) (as_unit definition.now)) }
 {
     match definition {
         Definition::Unit(unit) => {

@@ -1,4 +1,4 @@
 pub mod Depths
-pub mod Kept
+pub mod CheckedOf
 pub mod Piles
 pub mod Resolved

@@ -9,10 +9,10 @@ use Rattle.hs_expr.specs.declared.Name.{Name}
 use Rattle.hs_expr.specs.declared.Piece.{Piece}
 use Rattle.hs_expr.specs.declared.Piece.TheVariants as piece
 use Rattle.hs_expr.specs.declared.Value.TheVariants as value
-use Rattle.hs_expr.specs.Evaluation.{Env, Scope, joined, kind_in, kind_joined, kind_negated, kind_opposite, negated, opposite, value_of}
+use Rattle.hs_expr.specs.Evaluation.{Env, Scope, binary_value, kind_in, binary_kind, not_kind, minus_kind, not_value, minus_value, value_of}
 use Rattle.hs_expr.proofs.Evaluations.{kind_in-Binary, kind_in-Literal, kind_in-Minus, kind_in-Not, kind_in-Param, kind_in-Slot, value_of-Binary, value_of-Literal, value_of-Minus, value_of-Not, value_of-Param, value_of-Slot}
 use Rattle.hs_expr.specs.Steps.{◌>>=◌, demand, needed}
-use Rattle.hs_text.specs.Trees.{Tree, Leaf, Not, Minus, Binary}
+use Rattle.hs_expr.specs.Trees.{Tree, Leaf, Not, Minus, Binary}
 use Rattle.hs_eval.specs.declared.fault.ExprFault.{ExprFault}
 use Rattle.hs_eval.specs.declared.fault.Wrong.TheVariants.{NotRead}
 use Rattle.hs_eval.specs.Checking.{Names, Outcome, attribute_read, checked, leaf, param_read, slot_read, wrong_at}
@@ -77,21 +77,21 @@ pub same-value : (names : Names) (env : Env) (tree : Tree) (r : Expr × Kind) �
 same-value names env (Leaf p) r e = leaf-same names env p r e
 same-value names env (Not span a) r e =
     let x = steps-ok (checked names a) _ r e in
-    let f = needed-ok (kind_negated x.0.1) _ _ r x.2 in
+    let f = needed-ok (not_kind x.0.1) _ _ r x.2 in
     subst (Same names env (Not span a)) (inside (expr.Not x.0.0, f.0) r f.2)
-    (value_of-Not env x.0.0 ∙ ap (option_and_then negated) (same-value names env a x.0 x.1))
+    (value_of-Not env x.0.0 ∙ ap (option_and_then not_value) (same-value names env a x.0 x.1))
 same-value names env (Minus span a) r e =
     let x = steps-ok (checked names a) _ r e in
-    let f = needed-ok (kind_opposite x.0.1) _ _ r x.2 in
+    let f = needed-ok (minus_kind x.0.1) _ _ r x.2 in
     subst (Same names env (Minus span a)) (inside (expr.Minus x.0.0, f.0) r f.2)
-    (value_of-Minus env x.0.0 ∙ ap (option_and_then opposite) (same-value names env a x.0 x.1))
+    (value_of-Minus env x.0.0 ∙ ap (option_and_then minus_value) (same-value names env a x.0 x.1))
 same-value names env (Binary sign span a b) r e =
     let x = steps-ok (checked names a) _ r e in
     let y = steps-ok (checked names b) _ r x.2 in
-    let f = needed-ok (kind_joined sign x.0.1 y.0.1) _ _ r y.2 in
+    let f = needed-ok (binary_kind sign x.0.1 y.0.1) _ _ r y.2 in
     subst (Same names env (Binary sign span a b)) (inside (expr.Binary sign x.0.0 y.0.0, f.0) r f.2)
     (value_of-Binary env sign x.0.0 y.0.0
-    ∙ ap₂ (λ u v. option_and_then (λ w. option_and_then (joined sign w) v) u) (same-value names env a x.0 x.1) (same-value names env b y.0 y.1))
+    ∙ ap₂ (λ u v. option_and_then (λ w. option_and_then (binary_value sign w) v) u) (same-value names env a x.0 x.1) (same-value names env b y.0 y.1))
 
 -- KINDS
 
@@ -118,18 +118,18 @@ pub its-kind : (names : Names) (scope : Scope) → Agrees names scope → (tree 
 its-kind names scope h (Leaf p) r e = leaf-kinded names scope h p r e
 its-kind names scope h (Not span a) r e =
     let x = steps-ok (checked names a) _ r e in
-    let f = needed-ok (kind_negated x.0.1) _ _ r x.2 in
+    let f = needed-ok (not_kind x.0.1) _ _ r x.2 in
     subst (Kinded scope) (inside (expr.Not x.0.0, f.0) r f.2)
-    (kind_in-Not scope x.0.0 ∙ ap (option_and_then kind_negated) (its-kind names scope h a x.0 x.1) ∙ f.1)
+    (kind_in-Not scope x.0.0 ∙ ap (option_and_then not_kind) (its-kind names scope h a x.0 x.1) ∙ f.1)
 its-kind names scope h (Minus span a) r e =
     let x = steps-ok (checked names a) _ r e in
-    let f = needed-ok (kind_opposite x.0.1) _ _ r x.2 in
+    let f = needed-ok (minus_kind x.0.1) _ _ r x.2 in
     subst (Kinded scope) (inside (expr.Minus x.0.0, f.0) r f.2)
-    (kind_in-Minus scope x.0.0 ∙ ap (option_and_then kind_opposite) (its-kind names scope h a x.0 x.1) ∙ f.1)
+    (kind_in-Minus scope x.0.0 ∙ ap (option_and_then minus_kind) (its-kind names scope h a x.0 x.1) ∙ f.1)
 its-kind names scope h (Binary sign span a b) r e =
     let x = steps-ok (checked names a) _ r e in
     let y = steps-ok (checked names b) _ r x.2 in
-    let f = needed-ok (kind_joined sign x.0.1 y.0.1) _ _ r y.2 in
+    let f = needed-ok (binary_kind sign x.0.1 y.0.1) _ _ r y.2 in
     subst (Kinded scope) (inside (expr.Binary sign x.0.0 y.0.0, f.0) r f.2)
     (kind_in-Binary scope sign x.0.0 y.0.0
-    ∙ ap₂ (λ u v. option_and_then (λ w. option_and_then (kind_joined sign w) v) u) (its-kind names scope h a x.0 x.1) (its-kind names scope h b y.0 y.1) ∙ f.1)
+    ∙ ap₂ (λ u v. option_and_then (λ w. option_and_then (binary_kind sign w) v) u) (its-kind names scope h a x.0 x.1) (its-kind names scope h b y.0 y.1) ∙ f.1)

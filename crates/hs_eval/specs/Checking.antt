@@ -13,9 +13,9 @@ use Rattle.hs_expr.specs.declared.Piece.TheVariants as piece
 use Rattle.hs_expr.specs.declared.Sign.{Sign}
 use Rattle.hs_expr.specs.declared.Span.{Span}
 use Rattle.hs_expr.specs.declared.Value.TheVariants as value
-use Rattle.hs_expr.specs.Evaluation.{kind_joined, kind_negated, kind_opposite}
+use Rattle.hs_expr.specs.Evaluation.{binary_kind, not_kind, minus_kind}
 use Rattle.hs_expr.specs.Steps.{◌>>=◌, demand, needed}
-use Rattle.hs_text.specs.Trees.{Tree, Leaf, Not, Minus, Binary}
+use Rattle.hs_expr.specs.Trees.{Tree, Leaf, Not, Minus, Binary}
 
 -- What names stand for in expressions: a data parameter's number and kind; a node's number, and whether it is on the left side; and, by the number of its node, an attribute's number and kind.
 pub record Names : Type 0 where
@@ -64,17 +64,17 @@ leaf names (piece.Binary sign span) = Err (wrong_at span BadKind)
 -- An operator with its checked operands: of kinds that it takes, or BadKind at it.
 abbrev pub negation : Span → Expr × Kind → Outcome
 negation span a = do
-  k ← needed (kind_negated a.1) (wrong_at span BadKind)
+  k ← needed (not_kind a.1) (wrong_at span BadKind)
   Ok (expr.Not a.0, k)
 
 abbrev pub opposition : Span → Expr × Kind → Outcome
 opposition span a = do
-  k ← needed (kind_opposite a.1) (wrong_at span BadKind)
+  k ← needed (minus_kind a.1) (wrong_at span BadKind)
   Ok (expr.Minus a.0, k)
 
 abbrev pub junction : Sign → Span → Expr × Kind → Expr × Kind → Outcome
 junction sign span a b = do
-  k ← needed (kind_joined sign a.1 b.1) (wrong_at span BadKind)
+  k ← needed (binary_kind sign a.1 b.1) (wrong_at span BadKind)
   Ok (expr.Binary sign a.0 b.0, k)
 
 -- What the expression is checked to be: the operands first, from the left, then the sign or the word itself.

@@ -1,5 +1,5 @@
 pub mod Checking
-pub mod Keeping
-pub mod Lent
+pub mod Results
+pub mod ValueRefs
 pub mod Naming
-pub mod Stepping
+pub mod Stacks

@@ -7,8 +7,8 @@ use Rattle.hs_expr.specs.declared.Piece.{Piece}
 use Rattle.hs_expr.specs.declared.Piece.TheVariants as piece
 use Rattle.hs_expr.specs.declared.Value.{Value}
 use Rattle.hs_expr.specs.declared.Value.TheVariants as value
-use Rattle.hs_expr.specs.Evaluation.{Env, Scope, joined, negated, opposite}
-use Rattle.hs_text.specs.Trees.{Tree, Leaf, Not, Minus, Binary}
+use Rattle.hs_expr.specs.Evaluation.{Env, Scope, binary_value, not_value, minus_value}
+use Rattle.hs_expr.specs.Trees.{Tree, Leaf, Not, Minus, Binary}
 
 -- The value of a part without operands: what it says, or what is read where its names lead.
 abbrev pub leaf_value : Names → Env → Piece → Option Value
@@ -25,10 +25,10 @@ leaf_value names env (piece.Binary sign span) = None
 -- The value of an expression by names: strict, as that of a checked one.
 abbrev pub value_by_names : Names → Env → Tree → Option Value
 value_by_names names env (Leaf p) = leaf_value names env p
-value_by_names names env (Not span a) = option_and_then negated (value_by_names names env a)
-value_by_names names env (Minus span a) = option_and_then opposite (value_by_names names env a)
+value_by_names names env (Not span a) = option_and_then not_value (value_by_names names env a)
+value_by_names names env (Minus span a) = option_and_then minus_value (value_by_names names env a)
 value_by_names names env (Binary sign span a b) =
-    option_and_then (λ x. option_and_then (joined sign x) (value_by_names names env b)) (value_by_names names env a)
+    option_and_then (λ x. option_and_then (binary_value sign x) (value_by_names names env b)) (value_by_names names env a)
 
 -- The numbers have the kinds that the names are said to have.
 pub record Agrees (names : Names) (scope : Scope) : Type 0 where

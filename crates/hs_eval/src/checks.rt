@@ -1,9 +1,9 @@
-ghost use Rattle.std.specs.Prelude.{◌≡◌, [], Some, is_some, true};
+ghost use Rattle.std.specs.Prelude.{[]};
 ghost use Rattle.hs_expr.specs.Steps.{Gives, GivesBy, Leaves};
-ghost use Rattle.hs_text.specs.Trees.{Tree, tree_of};
+ghost use Rattle.hs_expr.specs.NameExprs.{expr_tree};
 ghost use Rattle.hs_eval.specs.Checking.{checked};
-ghost use Rattle.hs_eval.specs.Keeping.{kept, mapped};
-ghost use Rattle.hs_eval.specs.Stepping.{run, stepped, taken};
+ghost use Rattle.hs_eval.specs.Results.{checked_of, ok_map};
+ghost use Rattle.hs_eval.specs.Stacks.{stack_after_all, stack_after, pop};
 
 use crate::fault::{ExprFault, Wrong, wrong_at};
 use crate::leaves::leaf;
@@ -15,7 +15,7 @@ use std::alloc::Global;
 
 /// Takes the top of the stack. An operator that finds nothing there misses an operand of its kind.
 fn take(stack: &mut Stack<Operand>, span: Span) -> Result<Operand, Failure<ExprFault>>
-    ensures { GivesBy (λ operand. (operand, stack.new)) result (taken span stack.old) }
+    ensures { GivesBy (λ operand. (operand, stack.new)) result (pop span stack.old) }
 {
     needed(stack.pop(), wrong_at(span, Wrong::BadKind))
 }
@@ -27,7 +27,7 @@ fn step<C: Scope>(
     piece: &Piece,
     scope: &C,
 ) -> Result<(), Failure<ExprFault>>
-    ensures { Leaves result stack.new (stepped (C.names scope.now) piece.now stack.old) }
+    ensures { Leaves result stack.new (stack_after (C.names scope.now) piece.now stack.old) }
 {
     let one = match piece {
         Piece::Not { span } => negation(alloc, *span, take(stack, *span)?)?,
@@ -43,13 +43,13 @@ fn step<C: Scope>(
     Ok(())
 }
 
-/// What is held at the end of the pieces.
+/// The stack after the pieces.
 fn run<C: Scope>(
     alloc: Global,
     pieces: &[Piece],
     scope: &C,
 ) -> Result<Stack<Operand>, Failure<ExprFault>>
-    ensures { Gives result (run (C.names scope.now) pieces.now []) }
+    ensures { Gives result (stack_after_all (C.names scope.now) pieces.now []) }
 {
     let mut stack = Stack::new(alloc);
     for piece in pieces {
@@ -61,7 +61,7 @@ fn run<C: Scope>(
 /// The kind of the expression, and the expression with its names resolved to numbers where it nests
 /// at most 32 deep; or its first fault: those of operands come first, operand by operand from the
 /// left, then the sign's or the word's own. A fault's place is that of the name, the sign or the
-/// word that it is told at.
+/// word that it is reported at.
 ///
 /// It goes through the pieces once, with a stack of its own, and builds nothing that nests deeper,
 /// so no text overruns the machine's stack.
@@ -70,14 +70,10 @@ pub fn check<C: Scope>(
     names: &NameExpr,
     scope: &C,
 ) -> Result<Checked, Failure<ExprFault>>
-    requires one { is_some (tree_of names.now.pieces) ≡ true }
-    ensures { (tree : Tree) → tree_of names.now.pieces ≡ Some tree → Gives result (mapped kept (checked (C.names scope.now) tree)) }
+    ensures { Gives result (ok_map checked_of (checked (C.names scope.now) (expr_tree names.now))) }
 {
     match run(alloc, names.pieces.as_slice(), scope) {
-        Ok(mut stack) => match stack.pop() {
-            Some(operand) => Ok(operand.release()),
-            None => unreachable!(),
-        },
+        Ok(mut stack) => Ok(stack.pop().unwrap().into_checked()),
         Err(failure) => Err(failure),
     }
 }

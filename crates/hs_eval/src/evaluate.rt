@@ -1,13 +1,13 @@
 ghost use Rattle.std.specs.Prelude.{◌≡◌, ◌≤◌, option_map};
-ghost use Rattle.hs_expr.specs.Evaluation.{value_of, nesting, negated, opposite};
-ghost use Rattle.hs_eval.specs.Lent.{meant};
+ghost use Rattle.hs_expr.specs.Evaluation.{value_of, nesting, not_value, minus_value};
+ghost use Rattle.hs_eval.specs.ValueRefs.{referent};
 
-use crate::joining::{join, whole};
+use crate::joining::{int_value, join};
 use crate::{Env, ValueRef};
 use hs_expr::Expr;
 
 fn negate(value: ValueRef<'_>) -> Option<ValueRef<'_>>
-    ensures { option_map meant result ≡ negated (meant value.entry) }
+    ensures { option_map referent result ≡ not_value (referent value.entry) }
 {
     match value {
         ValueRef::Bool(truth) => Some(ValueRef::Bool(!truth)),
@@ -16,10 +16,10 @@ fn negate(value: ValueRef<'_>) -> Option<ValueRef<'_>>
 }
 
 fn oppose(value: ValueRef<'_>) -> Option<ValueRef<'_>>
-    ensures { option_map meant result ≡ opposite (meant value.entry) }
+    ensures { option_map referent result ≡ minus_value (referent value.entry) }
 {
     match value {
-        ValueRef::Int(number) => whole(number.checked_neg()),
+        ValueRef::Int(number) => int_value(number.checked_neg()),
         _ => None,
     }
 }
@@ -32,7 +32,7 @@ fn oppose(value: ValueRef<'_>) -> Option<ValueRef<'_>>
 /// It calls itself once for each level of the expression: at most 33 calls stand on the stack.
 pub fn eval<'a, E: Env>(expr: &'a Expr, env: &'a E) -> Option<ValueRef<'a>>
     requires shallow { nesting expr.now ≤ 32 }
-    ensures { option_map meant result ≡ value_of (E.reads env.now) expr.now }
+    ensures { option_map referent result ≡ value_of (E.reads env.now) expr.now }
 {
     match expr {
         Expr::Literal(value) => Some(ValueRef::of(value)),

@@ -2,12 +2,12 @@
 
 ghost use Rattle.std.specs.Prelude.{◌≡◌};
 ghost use Rattle.hs_expr.specs.declared.value.Kind.TheVariants as kind;
-ghost use Rattle.hs_expr.specs.Evaluation.{kind_joined, kind_negated, kind_opposite};
+ghost use Rattle.hs_expr.specs.Evaluation.{binary_kind, not_kind, minus_kind};
 
 use hs_expr::{Kind, Sign};
 
-pub fn kind_negated(operand: Kind) -> Option<Kind>
-    ensures { result ≡ kind_negated operand }
+pub fn not_kind(operand: Kind) -> Option<Kind>
+    ensures { result ≡ not_kind operand }
 {
     match operand {
         Kind::Bool => Some(Kind::Bool),
@@ -15,8 +15,8 @@ pub fn kind_negated(operand: Kind) -> Option<Kind>
     }
 }
 
-pub fn kind_opposite(operand: Kind) -> Option<Kind>
-    ensures { result ≡ kind_opposite operand }
+pub fn minus_kind(operand: Kind) -> Option<Kind>
+    ensures { result ≡ minus_kind operand }
 {
     match operand {
         Kind::Int => Some(Kind::Int),
@@ -24,19 +24,19 @@ pub fn kind_opposite(operand: Kind) -> Option<Kind>
     }
 }
 
-pub fn kind_joined(sign: Sign, left: Kind, right: Kind) -> Option<Kind>
-    ensures { result ≡ kind_joined sign left right }
+pub fn binary_kind(sign: Sign, left: Kind, right: Kind) -> Option<Kind>
+    ensures { result ≡ binary_kind sign left right }
 {
     match (left, right) {
-        (Kind::Int, Kind::Int) => numbers_joined(sign),
-        (Kind::Bool, Kind::Bool) => truths_joined(sign),
-        (Kind::Text, Kind::Text) => texts_joined(sign),
+        (Kind::Int, Kind::Int) => numbers_kind(sign),
+        (Kind::Bool, Kind::Bool) => truths_kind(sign),
+        (Kind::Text, Kind::Text) => texts_kind(sign),
         _ => None,
     }
 }
 
-fn numbers_joined(sign: Sign) -> Option<Kind>
-    ensures { result ≡ kind_joined sign kind.Int kind.Int }
+fn numbers_kind(sign: Sign) -> Option<Kind>
+    ensures { result ≡ binary_kind sign kind.Int kind.Int }
 {
     match sign {
         Sign::Plus | Sign::Minus | Sign::Times => Some(Kind::Int),
@@ -45,8 +45,8 @@ fn numbers_joined(sign: Sign) -> Option<Kind>
     }
 }
 
-fn truths_joined(sign: Sign) -> Option<Kind>
-    ensures { result ≡ kind_joined sign kind.Bool kind.Bool }
+fn truths_kind(sign: Sign) -> Option<Kind>
+    ensures { result ≡ binary_kind sign kind.Bool kind.Bool }
 {
     match sign {
         Sign::Or | Sign::And | Sign::Equal | Sign::NotEqual => Some(Kind::Bool),
@@ -54,8 +54,8 @@ fn truths_joined(sign: Sign) -> Option<Kind>
     }
 }
 
-fn texts_joined(sign: Sign) -> Option<Kind>
-    ensures { result ≡ kind_joined sign kind.Text kind.Text }
+fn texts_kind(sign: Sign) -> Option<Kind>
+    ensures { result ≡ binary_kind sign kind.Text kind.Text }
 {
     match sign {
         Sign::Equal | Sign::NotEqual => Some(Kind::Bool),

@@ -3,10 +3,10 @@ ghost use Rattle.hs_expr.specs.declared.expr.Expr.{Expr};
 ghost use Rattle.hs_expr.specs.declared.value.Kind.{Kind};
 ghost use Rattle.hs_expr.specs.Evaluation as evaluation;
 ghost use Rattle.hs_expr.specs.Evaluation.{kind_in, nesting, value_of};
-ghost use Rattle.hs_text.specs.Trees.{Tree};
+ghost use Rattle.hs_expr.specs.Trees.{Tree};
 ghost use Rattle.hs_eval.specs.declared.checked.Checked.{Checked};
 ghost use Rattle.hs_eval.specs.Checking.{Names, checked};
-ghost use Rattle.hs_eval.specs.Keeping.{kept, mapped};
+ghost use Rattle.hs_eval.specs.Results.{checked_of, ok_map};
 ghost use Rattle.hs_eval.specs.Naming.{Agrees, value_by_names};
 
 /// A checked expression is worth what the expression by names is, wherever it is read.
@@ -22,9 +22,9 @@ pub fn checked_has_its_kind()
         → kind_in scope r.0 ≡ Some r.1 }
 {}
 
-/// An expression that is kept is the checked one, of the kind that is told, and nests at most 32
-/// deep.
+/// An expression that is given to the caller is the checked one, of the kind that is given with it,
+/// and nests at most 32 deep.
 pub fn kept_is_checked()
-    ensures { (names : Names) (tree : Tree) (told : Checked) (e : Expr) → mapped kept (checked names tree) ≡ Ok told → told.expr ≡ Some e
-        → (checked names tree ≡ Ok (e, told.kind)) × (nesting e ≤ 32) }
+    ensures { (names : Names) (tree : Tree) (given : Checked) (e : Expr) → ok_map checked_of (checked names tree) ≡ Ok given → given.expr ≡ Some e
+        → (checked names tree ≡ Ok (e, given.kind)) × (nesting e ≤ 32) }
 {}

@@ -2,8 +2,8 @@
 
 ghost use Rattle.hs_expr.specs.Steps.{Gives};
 ghost use Rattle.hs_eval.specs.Checking.{attribute_read, leaf, param_read, slot_read};
-ghost use Rattle.hs_eval.specs.Keeping.{mapped};
-ghost use Rattle.hs_eval.specs.Stepping.{bare};
+ghost use Rattle.hs_eval.specs.Results.{ok_map};
+ghost use Rattle.hs_eval.specs.Stacks.{leaf_operand};
 
 use crate::Scope;
 use crate::fault::{ExprFault, Wrong, wrong_at};
@@ -66,8 +66,8 @@ fn read<C: Scope>(piece: &Piece, scope: &C) -> Result<(Expr, Kind), Failure<Expr
 
 /// What a part without operands is checked to be.
 pub fn leaf<C: Scope>(piece: &Piece, scope: &C) -> Result<Operand, Failure<ExprFault>>
-    ensures { Gives result (mapped bare (leaf (C.names scope.now) piece.now)) }
+    ensures { Gives result (ok_map leaf_operand (leaf (C.names scope.now) piece.now)) }
 {
     let (expr, kind) = read(piece, scope)?;
-    Ok(Operand::bare(expr, kind))
+    Ok(Operand::leaf(expr, kind))
 }

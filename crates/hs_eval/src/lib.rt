@@ -1,10 +1,10 @@
 //! The values of expressions, and their checking.
 //!
-//! What an expression reads is behind the trait [`Env`], and what it is worth there a [`ValueRef`],
-//! whose text is lent. [`eval`] takes no memory.
+//! An expression reads slots and parameters through the trait [`Env`], and its value there is a
+//! [`ValueRef`], whose text is lent. [`eval`] takes no memory.
 //!
-//! [`check`] tells the kind of an expression by names, over a [`Scope`] that says what the names
-//! stand for, and turns it into one by numbers where it nests at most 32 deep, or tells its first
+//! [`check`] gives the kind of an expression by names, over a [`Scope`] that says what the names
+//! stand for, and the expression by numbers where it nests at most 32 deep, or reports its first
 //! fault.
 #![tactic(auto)]
 
@@ -34,7 +34,5 @@ pub use reading::Env;
 pub use scope::Scope;
 pub use value_ref::ValueRef;
 
-#[cfg(test)]
-mod check_tests;
 #[cfg(test)]
 mod tests;

@@ -1,11 +1,11 @@
 ghost use Rattle.std.specs.Prelude.{◌≡◌};
-ghost use Rattle.hs_eval.specs.Stepping.{bare, released};
+ghost use Rattle.hs_eval.specs.Stacks.{leaf_operand, checked_operand};
 
 use crate::Checked;
 use crate::shallow::Shallow;
 use hs_expr::{Expr, Kind};
 
-/// What is held of a checked operand.
+/// A checked operand, as the stack has it.
 #[derive(Debug, Drop)]
 pub struct Operand {
     pub kind: Kind,
@@ -15,8 +15,8 @@ pub struct Operand {
 
 impl Operand {
     /// One without operators.
-    pub fn bare(expr: Expr, kind: Kind) -> Operand
-        ensures { result ≡ bare (expr, kind) }
+    pub fn leaf(expr: Expr, kind: Kind) -> Operand
+        ensures { result ≡ leaf_operand (expr, kind) }
     {
         Operand {
             kind,
@@ -24,9 +24,9 @@ impl Operand {
         }
     }
 
-    /// What is kept of it.
-    pub fn release(self) -> Checked
-        ensures { result ≡ released self }
+    /// What it is checked to be.
+    pub fn into_checked(self) -> Checked
+        ensures { result ≡ checked_operand self }
     {
         Checked {
             kind: self.kind,

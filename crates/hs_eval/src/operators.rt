@@ -1,20 +1,20 @@
 //! Signs and words with their operands.
 
 ghost use Rattle.hs_expr.specs.Steps.{Gives};
-ghost use Rattle.hs_eval.specs.Stepping.{junction_held, negation_held, opposition_held};
+ghost use Rattle.hs_eval.specs.Stacks.{binary_operand, not_operand, minus_operand};
 
 use crate::fault::{ExprFault, Wrong, wrong_at};
-use crate::kinds::{kind_joined, kind_negated, kind_opposite};
+use crate::kinds::{binary_kind, minus_kind, not_kind};
 use crate::operand::Operand;
-use crate::shallow::{joined, negated, opposed};
+use crate::shallow::{binary_shallow, minus_shallow, not_shallow};
 use hs_expr::{Failure, Sign, Span, needed};
 use std::alloc::Global;
 
 pub fn negation(alloc: Global, span: Span, operand: Operand) -> Result<Operand, Failure<ExprFault>>
-    ensures { Gives result (negation_held span operand) }
+    ensures { Gives result (not_operand span operand) }
 {
-    let kind = needed(kind_negated(operand.kind), wrong_at(span, Wrong::BadKind))?;
-    let shallow = negated(alloc, operand.shallow)?;
+    let kind = needed(not_kind(operand.kind), wrong_at(span, Wrong::BadKind))?;
+    let shallow = not_shallow(alloc, operand.shallow)?;
     Ok(Operand { kind, shallow })
 }
 
@@ -23,10 +23,10 @@ pub fn opposition(
     span: Span,
     operand: Operand,
 ) -> Result<Operand, Failure<ExprFault>>
-    ensures { Gives result (opposition_held span operand) }
+    ensures { Gives result (minus_operand span operand) }
 {
-    let kind = needed(kind_opposite(operand.kind), wrong_at(span, Wrong::BadKind))?;
-    let shallow = opposed(alloc, operand.shallow)?;
+    let kind = needed(minus_kind(operand.kind), wrong_at(span, Wrong::BadKind))?;
+    let shallow = minus_shallow(alloc, operand.shallow)?;
     Ok(Operand { kind, shallow })
 }
 
@@ -37,12 +37,12 @@ pub fn junction(
     left: Operand,
     right: Operand,
 ) -> Result<Operand, Failure<ExprFault>>
-    ensures { Gives result (junction_held sign span left right) }
+    ensures { Gives result (binary_operand sign span left right) }
 {
     let kind = needed(
-        kind_joined(sign, left.kind, right.kind),
+        binary_kind(sign, left.kind, right.kind),
         wrong_at(span, Wrong::BadKind),
     )?;
-    let shallow = joined(alloc, sign, left.shallow, right.shallow)?;
+    let shallow = binary_shallow(alloc, sign, left.shallow, right.shallow)?;
     Ok(Operand { kind, shallow })
 }

@@ -1,7 +1,7 @@
 //! Expressions that nest at most 32 deep, built one operator at a time.
 
 ghost use Rattle.std.specs.Prelude.{◌≡◌, IfOk};
-ghost use Rattle.hs_eval.specs.Stepping.{raised, raised_both};
+ghost use Rattle.hs_eval.specs.Stacks as spec;
 
 use hs_expr::{Expr, Sign};
 use sqlite_items::Boxed;
@@ -18,8 +18,8 @@ pub struct Shallow {
 }
 
 /// `not` on the operand; none where it would nest too deep.
-pub fn negated(alloc: Global, operand: Option<Shallow>) -> Result<Option<Shallow>, AllocError>
-    ensures { IfOk result (λ made. made ≡ raised Expr.Not operand) }
+pub fn not_shallow(alloc: Global, operand: Option<Shallow>) -> Result<Option<Shallow>, AllocError>
+    ensures { IfOk result (λ made. made ≡ spec.unary_shallow Expr.Not operand) }
 {
     match operand {
         Some(operand) if operand.depth < MOST => Ok(Some(Shallow {
@@ -31,8 +31,8 @@ pub fn negated(alloc: Global, operand: Option<Shallow>) -> Result<Option<Shallow
 }
 
 /// The minus sign on the operand; none where it would nest too deep.
-pub fn opposed(alloc: Global, operand: Option<Shallow>) -> Result<Option<Shallow>, AllocError>
-    ensures { IfOk result (λ made. made ≡ raised Expr.Minus operand) }
+pub fn minus_shallow(alloc: Global, operand: Option<Shallow>) -> Result<Option<Shallow>, AllocError>
+    ensures { IfOk result (λ made. made ≡ spec.unary_shallow Expr.Minus operand) }
 {
     match operand {
         Some(operand) if operand.depth < MOST => Ok(Some(Shallow {
@@ -44,13 +44,13 @@ pub fn opposed(alloc: Global, operand: Option<Shallow>) -> Result<Option<Shallow
 }
 
 /// A sign or word between the operands; none where it would nest too deep.
-pub fn joined(
+pub fn binary_shallow(
     alloc: Global,
     sign: Sign,
     left: Option<Shallow>,
     right: Option<Shallow>,
 ) -> Result<Option<Shallow>, AllocError>
-    ensures { IfOk result (λ made. made ≡ raised_both (Expr.Binary sign) left right) }
+    ensures { IfOk result (λ made. made ≡ spec.binary_shallow (Expr.Binary sign) left right) }
 {
     match (left, right) {
         (Some(left), Some(right)) if left.depth < MOST && right.depth < MOST => {

@@ -1,5 +1,5 @@
 ghost use Rattle.std.specs.Prelude.{◌≡◌};
-ghost use Rattle.hs_eval.specs.Lent.{meant};
+ghost use Rattle.hs_eval.specs.ValueRefs.{referent};
 
 use hs_expr::Value;
 
@@ -14,7 +14,7 @@ pub enum ValueRef<'a> {
 impl<'a> ValueRef<'a> {
     /// The value, with its text lent.
     pub fn of(value: &'a Value) -> ValueRef<'a>
-        ensures { meant result ≡ value.now }
+        ensures { referent result ≡ value.now }
     {
         match value {
             Value::Int(number) => ValueRef::Int(*number),

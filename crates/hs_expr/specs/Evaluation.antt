@@ -30,11 +30,11 @@ is_within bound (pos n) = nat_lt n bound
 is_within bound (negsuc n) = nat_lt n bound
 
 -- The number, where 64 bits with a sign hold it.
-abbrev pub whole : ℤ → Option Value
-whole n = if is_within (2 ^ 63) n then Some (value.Int n) else None
+abbrev pub int_value : ℤ → Option Value
+int_value n = if is_within (2 ^ 63) n then Some (value.Int n) else None
 
-abbrev pub truth : Bool → Option Value
-truth b = Some (value.Bool b)
+abbrev pub bool_value : Bool → Option Value
+bool_value b = Some (value.Bool b)
 
 abbrev pub is_same : Value → Value → Bool
 is_same (value.Int m) (value.Int n) = int_eq m n
@@ -43,36 +43,36 @@ is_same (value.Text s) (value.Text t) = pointwise nat_eq s t
 is_same _ _ = false
 
 -- What a sign makes of its two operands: nothing where they are of no kind that it takes, or where the number leaves 64 bits.
-abbrev pub joined : Sign → Value → Value → Option Value
-joined sign.Or (value.Bool a) (value.Bool b) = truth (a || b)
-joined sign.And (value.Bool a) (value.Bool b) = truth (a && b)
-joined sign.Equal a b = truth (is_same a b)
-joined sign.NotEqual a b = truth (not (is_same a b))
-joined sign.Less (value.Int m) (value.Int n) = truth (int_lt m n)
-joined sign.AtMost (value.Int m) (value.Int n) = truth (int_le m n)
-joined sign.Greater (value.Int m) (value.Int n) = truth (int_lt n m)
-joined sign.AtLeast (value.Int m) (value.Int n) = truth (int_le n m)
-joined sign.Plus (value.Int m) (value.Int n) = whole (m +ℤ n)
-joined sign.Minus (value.Int m) (value.Int n) = whole (m -ℤ n)
-joined sign.Times (value.Int m) (value.Int n) = whole (m *ℤ n)
-joined _ _ _ = None
+abbrev pub binary_value : Sign → Value → Value → Option Value
+binary_value sign.Or (value.Bool a) (value.Bool b) = bool_value (a || b)
+binary_value sign.And (value.Bool a) (value.Bool b) = bool_value (a && b)
+binary_value sign.Equal a b = bool_value (is_same a b)
+binary_value sign.NotEqual a b = bool_value (not (is_same a b))
+binary_value sign.Less (value.Int m) (value.Int n) = bool_value (int_lt m n)
+binary_value sign.AtMost (value.Int m) (value.Int n) = bool_value (int_le m n)
+binary_value sign.Greater (value.Int m) (value.Int n) = bool_value (int_lt n m)
+binary_value sign.AtLeast (value.Int m) (value.Int n) = bool_value (int_le n m)
+binary_value sign.Plus (value.Int m) (value.Int n) = int_value (m +ℤ n)
+binary_value sign.Minus (value.Int m) (value.Int n) = int_value (m -ℤ n)
+binary_value sign.Times (value.Int m) (value.Int n) = int_value (m *ℤ n)
+binary_value _ _ _ = None
 
-abbrev pub negated : Value → Option Value
-negated (value.Bool b) = truth (not b)
-negated _ = None
+abbrev pub not_value : Value → Option Value
+not_value (value.Bool b) = bool_value (not b)
+not_value _ = None
 
-abbrev pub opposite : Value → Option Value
-opposite (value.Int n) = whole (neg_ℤ n)
-opposite _ = None
+abbrev pub minus_value : Value → Option Value
+minus_value (value.Int n) = int_value (neg_ℤ n)
+minus_value _ = None
 
 -- One level of an expression, whose operands have these values. An operand without a value leaves the whole without one: both sides of a sign are evaluated, also of `and` and `or`.
 abbrev pub level : Env → Expr-F (Option Value) → Option Value
 level env (Expr-F.Literal v) = Some v
 level env (Expr-F.Slot read) = env.slot read.node read.attribute
 level env (Expr-F.Param number) = env.param number
-level env (Expr-F.Not a) = option_and_then negated a
-level env (Expr-F.Minus a) = option_and_then opposite a
-level env (Expr-F.Binary sign a b) = option_and_then (λ x. option_and_then (joined sign x) b) a
+level env (Expr-F.Not a) = option_and_then not_value a
+level env (Expr-F.Minus a) = option_and_then minus_value a
+level env (Expr-F.Binary sign a b) = option_and_then (λ x. option_and_then (binary_value sign x) b) a
 
 -- The value of the expression, where it has one.
 abbrev pub value_of : Env → Expr → Option Value
@@ -83,28 +83,28 @@ abbrev pub IsOut : ℤ → Type 0
 IsOut n = is_within (2 ^ 63) n ≡ false
 
 -- The operands have values, and the sum, difference or product of these leaves 64 bits.
-abbrev pub LeavesJoined : Sign → Option Value → Option Value → Type 0
-LeavesJoined sign.Plus (Some (value.Int m)) (Some (value.Int n)) = IsOut (m +ℤ n)
-LeavesJoined sign.Minus (Some (value.Int m)) (Some (value.Int n)) = IsOut (m -ℤ n)
-LeavesJoined sign.Times (Some (value.Int m)) (Some (value.Int n)) = IsOut (m *ℤ n)
-LeavesJoined _ _ _ = ⊥
+abbrev pub OverflowsBinary : Sign → Option Value → Option Value → Type 0
+OverflowsBinary sign.Plus (Some (value.Int m)) (Some (value.Int n)) = IsOut (m +ℤ n)
+OverflowsBinary sign.Minus (Some (value.Int m)) (Some (value.Int n)) = IsOut (m -ℤ n)
+OverflowsBinary sign.Times (Some (value.Int m)) (Some (value.Int n)) = IsOut (m *ℤ n)
+OverflowsBinary _ _ _ = ⊥
 
-abbrev pub LeavesOpposite : Option Value → Type 0
-LeavesOpposite (Some (value.Int n)) = IsOut (neg_ℤ n)
-LeavesOpposite _ = ⊥
+abbrev pub OverflowsMinus : Option Value → Type 0
+OverflowsMinus (Some (value.Int n)) = IsOut (neg_ℤ n)
+OverflowsMinus _ = ⊥
 
 -- At one level: within an operand, or here.
-abbrev pub LeavesLevel : Env → (X : Type 0) → (X → Expr) → (X → Type 0) → Expr-F X → Type 0
-LeavesLevel env X operand within (Expr-F.Literal v) = ⊥
-LeavesLevel env X operand within (Expr-F.Slot read) = ⊥
-LeavesLevel env X operand within (Expr-F.Param number) = ⊥
-LeavesLevel env X operand within (Expr-F.Not a) = within a
-LeavesLevel env X operand within (Expr-F.Minus a) = within a ⊎ LeavesOpposite (value_of env (operand a))
-LeavesLevel env X operand within (Expr-F.Binary sign a b) = within a ⊎ (within b ⊎ LeavesJoined sign (value_of env (operand a)) (value_of env (operand b)))
+abbrev pub OverflowsLevel : Env → (X : Type 0) → (X → Expr) → (X → Type 0) → Expr-F X → Type 0
+OverflowsLevel env X operand within (Expr-F.Literal v) = ⊥
+OverflowsLevel env X operand within (Expr-F.Slot read) = ⊥
+OverflowsLevel env X operand within (Expr-F.Param number) = ⊥
+OverflowsLevel env X operand within (Expr-F.Not a) = within a
+OverflowsLevel env X operand within (Expr-F.Minus a) = within a ⊎ OverflowsMinus (value_of env (operand a))
+OverflowsLevel env X operand within (Expr-F.Binary sign a b) = within a ⊎ (within b ⊎ OverflowsBinary sign (value_of env (operand a)) (value_of env (operand b)))
 
 -- Somewhere in the expression a sum, a difference, a product or a negation leaves 64 bits.
-abbrev pub Leaves : Env → Expr → Type 0
-Leaves env = rec-Expr (Type 0) (LeavesLevel env)
+abbrev pub Overflows : Env → Expr → Type 0
+Overflows env = rec-Expr (Type 0) (OverflowsLevel env)
 
 -- The slots that one level reads, beside those of its operands.
 abbrev pub reads_of_level : Expr-F (List SlotRead) → List SlotRead
@@ -125,39 +125,39 @@ pub record Scope : Type 0 where
   pub param : ℕ → Option Kind
 
 -- The kind that a sign gives for operands of these kinds, if it takes them.
-abbrev pub kind_joined : Sign → Kind → Kind → Option Kind
-kind_joined sign.Or kind.Bool kind.Bool = Some kind.Bool
-kind_joined sign.And kind.Bool kind.Bool = Some kind.Bool
-kind_joined sign.Equal kind.Int kind.Int = Some kind.Bool
-kind_joined sign.Equal kind.Bool kind.Bool = Some kind.Bool
-kind_joined sign.Equal kind.Text kind.Text = Some kind.Bool
-kind_joined sign.NotEqual kind.Int kind.Int = Some kind.Bool
-kind_joined sign.NotEqual kind.Bool kind.Bool = Some kind.Bool
-kind_joined sign.NotEqual kind.Text kind.Text = Some kind.Bool
-kind_joined sign.Less kind.Int kind.Int = Some kind.Bool
-kind_joined sign.AtMost kind.Int kind.Int = Some kind.Bool
-kind_joined sign.Greater kind.Int kind.Int = Some kind.Bool
-kind_joined sign.AtLeast kind.Int kind.Int = Some kind.Bool
-kind_joined sign.Plus kind.Int kind.Int = Some kind.Int
-kind_joined sign.Minus kind.Int kind.Int = Some kind.Int
-kind_joined sign.Times kind.Int kind.Int = Some kind.Int
-kind_joined _ _ _ = None
+abbrev pub binary_kind : Sign → Kind → Kind → Option Kind
+binary_kind sign.Or kind.Bool kind.Bool = Some kind.Bool
+binary_kind sign.And kind.Bool kind.Bool = Some kind.Bool
+binary_kind sign.Equal kind.Int kind.Int = Some kind.Bool
+binary_kind sign.Equal kind.Bool kind.Bool = Some kind.Bool
+binary_kind sign.Equal kind.Text kind.Text = Some kind.Bool
+binary_kind sign.NotEqual kind.Int kind.Int = Some kind.Bool
+binary_kind sign.NotEqual kind.Bool kind.Bool = Some kind.Bool
+binary_kind sign.NotEqual kind.Text kind.Text = Some kind.Bool
+binary_kind sign.Less kind.Int kind.Int = Some kind.Bool
+binary_kind sign.AtMost kind.Int kind.Int = Some kind.Bool
+binary_kind sign.Greater kind.Int kind.Int = Some kind.Bool
+binary_kind sign.AtLeast kind.Int kind.Int = Some kind.Bool
+binary_kind sign.Plus kind.Int kind.Int = Some kind.Int
+binary_kind sign.Minus kind.Int kind.Int = Some kind.Int
+binary_kind sign.Times kind.Int kind.Int = Some kind.Int
+binary_kind _ _ _ = None
 
-abbrev pub kind_negated : Kind → Option Kind
-kind_negated kind.Bool = Some kind.Bool
-kind_negated _ = None
+abbrev pub not_kind : Kind → Option Kind
+not_kind kind.Bool = Some kind.Bool
+not_kind _ = None
 
-abbrev pub kind_opposite : Kind → Option Kind
-kind_opposite kind.Int = Some kind.Int
-kind_opposite _ = None
+abbrev pub minus_kind : Kind → Option Kind
+minus_kind kind.Int = Some kind.Int
+minus_kind _ = None
 
 abbrev pub kind_of_level : Scope → Expr-F (Option Kind) → Option Kind
 kind_of_level scope (Expr-F.Literal v) = Some (kind_of v)
 kind_of_level scope (Expr-F.Slot read) = scope.slot read.node read.attribute
 kind_of_level scope (Expr-F.Param number) = scope.param number
-kind_of_level scope (Expr-F.Not a) = option_and_then kind_negated a
-kind_of_level scope (Expr-F.Minus a) = option_and_then kind_opposite a
-kind_of_level scope (Expr-F.Binary sign a b) = option_and_then (λ x. option_and_then (kind_joined sign x) b) a
+kind_of_level scope (Expr-F.Not a) = option_and_then not_kind a
+kind_of_level scope (Expr-F.Minus a) = option_and_then minus_kind a
+kind_of_level scope (Expr-F.Binary sign a b) = option_and_then (λ x. option_and_then (binary_kind sign x) b) a
 
 -- The kind of an expression, where each of its parts has a kind that its place takes.
 abbrev pub kind_in : Scope → Expr → Option Kind

@@ -1,4 +1,10 @@
+pub mod Characters
+pub mod Lists
 pub mod Equality
 pub mod Evaluation
+pub mod Failures
+pub mod Lexicographic
 pub mod Steps
+pub mod Trees
+pub mod NameExprs
 pub mod Verdict

@@ -19,12 +19,23 @@ abbrev pub needed : {A F : Type 0} → Option A → F → Result A F
 needed (Some x) fault = Ok x
 needed None fault = Err fault
 
--- Why there is no answer: this is the first fault, or memory was wanting.
+-- The fault, where there is one, as one of a wider type.
+abbrev pub fault_as : {A F G : Type 0} → (F → G) → Result A F → Result A G
+fault_as wrap (Ok x) = Ok x
+fault_as wrap (Err fault) = Err (wrap fault)
+
+-- The same of an answer that may also be out of memory.
+abbrev pub failing_as : {A F G : Type 0} → (F → G) → Result A (Failure F) → Result A (Failure G)
+failing_as wrap (Ok x) = Ok x
+failing_as wrap (Err (Fault fault)) = Err (Fault (wrap fault))
+failing_as wrap (Err NoMemory) = Err NoMemory
+
+-- Why there is no answer: this is the first fault, or memory ran out.
 abbrev pub Fails : {A F : Type 0} → Failure F → Result A F → Type 0
 Fails (Fault fault) meant = meant ≡ Err fault
 Fails NoMemory meant = Unit {0}
 
--- The answer is what the definition gives; only want of memory may come in its place.
+-- The answer is what the definition gives; only out of memory may come in its place.
 abbrev pub Gives : {A F : Type 0} → Result A (Failure F) → Result A F → Type 0
 Gives (Ok x) meant = meant ≡ Ok x
 Gives (Err failure) meant = Fails failure meant
@@ -38,3 +49,8 @@ GivesBy view (Err failure) meant = Fails failure meant
 abbrev pub Leaves : {A F : Type 0} → Result (Unit {0}) (Failure F) → A → Result A F → Type 0
 Leaves (Ok done) left meant = meant ≡ Ok left
 Leaves (Err failure) left meant = Fails failure meant
+
+-- The fact holds of the value that is given, and the definition finds no fault; else this is its fault.
+abbrev pub GivesWhere : {A F : Type 0} → (A → Type 0) → Result A (Failure F) → Result (Unit {0}) F → Type 0
+GivesWhere Holds (Ok x) meant = (meant ≡ Ok tt) × Holds x
+GivesWhere Holds (Err failure) meant = Fails failure meant

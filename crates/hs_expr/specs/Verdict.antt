@@ -1,9 +1,15 @@
+-- The first fault of a list of faults, and lists of faults that are made item by item.
 use Rattle.std.specs.Prelude.{ℕ, ◌+◌, List, [], ◌∷◌, ◌++◌, Result, Ok, Err, Bool, if◌then◌else◌}
 
 -- No fault, or the first of them.
 abbrev pub verdict : {E : Type 0} → List E → Result (Unit {0}) E
 verdict [] = Ok tt
 verdict (fault ∷ faults) = Err fault
+
+-- The value where there is no fault; else the first fault.
+abbrev pub unless : {A F : Type 0} → List F → A → Result A F
+unless [] x = Ok x
+unless (fault ∷ faults) x = Err fault
 
 -- What `finds` finds at each item, item by item; the first item's number is i.
 abbrev pub each_from : {X E : Type 0} → (ℕ → X → List E) → ℕ → List X → List E

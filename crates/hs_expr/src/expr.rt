@@ -1,6 +1,9 @@
 use crate::Value;
 use sqlite_items::Boxed;
 
+/// The most operators on a path down the expression of a rule.
+pub const MAX_NESTING: u32 = 32;
+
 /// A sign or word between two operands.
 #[derive(Clone, Copy, PartialEq, Eq, Debug)]
 pub enum Sign {

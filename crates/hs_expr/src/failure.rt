@@ -1,4 +1,5 @@
-ghost use Rattle.std.specs.Prelude.{◌≡◌};
+ghost use Rattle.std.specs.Prelude.{◌≡◌, IfOk, Result};
+ghost use Rattle.std.specs.Result.{result_ok};
 ghost use Rattle.hs_expr.specs.declared.failure.Failure.TheVariants.{NoMemory};
 ghost use Rattle.hs_expr.specs.Steps as spec;
 
@@ -9,7 +10,7 @@ use std::alloc::{AllocError, AllocFailed};
 pub enum Failure<F> {
     /// What it was given has this fault.
     Fault(F),
-    /// Memory was wanting.
+    /// Out of memory.
     NoMemory,
 }
 
@@ -47,5 +48,42 @@ pub fn needed<T: Drop, F: Drop>(value: Option<T>, fault: F) -> Result<T, Failure
     match value {
         Some(value) => Ok(value),
         None => Err(Failure::Fault(fault)),
+    }
+}
+
+/// The same answer, its fault as one of a wider type.
+pub fn fault_as<T: Drop, F: Drop, G: Drop, W: Fn(F) -> G>(
+    answer: Result<T, Failure<F>>,
+    wrap: &W,
+) -> Result<T, Failure<G>>
+    requires { W.IsAlwaysCallable wrap.now }
+    ensures { (wide : F → G) → ((fault : F) (made : G) → W.post wrap.now fault made → made ≡ wide fault)
+        → result ≡ spec.failing_as wide answer }
+{
+    match answer {
+        Ok(value) => Ok(value),
+        Err(Failure::Fault(fault)) => Err(Failure::Fault(wrap(fault))),
+        Err(Failure::NoMemory) => Err(Failure::NoMemory),
+    }
+}
+
+/// The same answer of a call that takes no memory, as one of a call that may.
+pub fn as_failure<T: Drop, F: Drop>(answer: Result<T, F>) -> Result<T, Failure<F>>
+    ensures { spec.Gives result answer }
+{
+    match answer {
+        Ok(value) => Ok(value),
+        Err(fault) => Err(Failure::Fault(fault)),
+    }
+}
+
+/// The value, or none where there is a fault.
+pub fn value_of<T: Drop, F: Drop>(answer: Result<T, Failure<F>>) -> Result<Option<T>, AllocError>
+    ensures { (meant : Result T F) → spec.Gives answer meant → IfOk result (λ value. value ≡ result_ok meant) }
+{
+    match answer {
+        Ok(value) => Ok(Some(value)),
+        Err(Failure::Fault(_)) => Ok(None),
+        Err(Failure::NoMemory) => Err(AllocError),
     }
 }

@@ -1,41 +1,43 @@
-use crate::{List, Sign, Text};
+ghost use Rattle.std.specs.Prelude.{◌≡◌, true, is_some};
+ghost use Rattle.hs_expr.specs.Trees.{tree_of};
 
-/// Where something stands in a text: from the character numbered `start` up to the one before
-/// `end`, beginning in this line and this column, which count from 1.
-#[derive(Clone, Copy, PartialEq, Eq, Debug)]
-pub struct Span {
-    pub start: usize,
-    pub end: usize,
-    pub line: usize,
-    pub column: usize,
-}
+use crate::{List, Piece};
 
-/// A word of a text, with its place.
-#[derive(Debug, Drop)]
-pub struct Name {
-    pub text: Text,
-    pub span: Span,
-}
-
-/// One part of an expression by names.
-#[derive(Debug, Drop)]
-pub enum Piece {
-    Int { value: i64, span: Span },
-    Text { value: Text, span: Span },
-    Bool { value: bool, span: Span },
-    /// A data parameter.
-    Name(Name),
-    /// An attribute of a node.
-    Slot { node: Name, attribute: Name },
-    Not { span: Span },
-    /// The minus sign of one operand.
-    Minus { span: Span },
-    Binary { sign: Sign, span: Span },
-}
-
-/// An expression by names: its parts in postfix order, each operator behind its operands. So
+/// An expression by names: its parts in postfix order, each operator after its operands. So
 /// `a - b - c` is `a b - c -`, and parentheses leave no part.
 #[derive(Debug, Drop)]
 pub struct NameExpr {
     pub pieces: List<Piece>,
+    pub ghost one: { is_some (tree_of pieces) ≡ true },
+}
+
+impl NameExpr {
+    ghost use Rattle.hs_expr.specs.NameExprs.{name_expr};
+
+    /// The expression that has these pieces, if they are one: each operator finds its operands before
+    /// it, and one expression is left.
+    pub fn new(pieces: List<Piece>) -> Option<NameExpr>
+        ensures { result ≡ name_expr pieces }
+    {
+        if is_one(pieces.as_slice()) {
+            Some(NameExpr { pieces })
+        } else {
+            None
+        }
+    }
+}
+
+// Whether the pieces are one expression.
+fn is_one(pieces: &[Piece]) -> bool
+    ensures { result ≡ is_some (tree_of pieces.now) }
+{
+    let mut trees: usize = 0;
+    for piece in pieces {
+        let operands = piece.operands();
+        if trees < operands {
+            return false;
+        }
+        trees = trees - operands + 1;
+    }
+    trees == 1
 }

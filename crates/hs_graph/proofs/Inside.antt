@@ -9,15 +9,16 @@ use Rattle.hs_types.specs.declared.graph.Edge.{Edge}
 use Rattle.hs_types.specs.declared.graph.Graph.{Graph}
 use Rattle.hs_types.specs.declared.graph.Object.{Object}
 use Rattle.hs_types.specs.declared.meta.Metamodel.{Metamodel}
-use Rattle.hs_types.specs.Lists.{Rise, has}
-use Rattle.hs_types.specs.Supertypes as below
+use Rattle.hs_expr.specs.Lists.{Rise, has}
+use Rattle.hs_types.specs.Reachability as below
 use Rattle.hs_types.specs.Metamodel.{target_of}
 use Rattle.hs_types.specs.TypedGraph.{IsOf, IsTyped, Stands, object_at}
-use Rattle.hs_types.proofs.Below.{says_below}
-use Rattle.hs_cycles.specs.Reaching.{IsWhole}
-use Rattle.hs_cycles.proofs.Paths.{leads-extends}
-use Rattle.hs_graph.specs.Problems.{Contains, IsInside, by_way_of, contents, contents_of, direct, is_containment}
-use Rattle.hs_graph.proofs.Slots.{All-at, found}
+use Rattle.hs_types.proofs.Paths.{says_reaches}
+use Rattle.hs_reach.specs.Reaching.{TargetsAreVertices}
+use Rattle.hs_types.proofs.Edges.{edge-from_test}
+use Rattle.hs_graph.specs.Problems.{Contains, IsInside, by_way_of, containment_lists, contained_objects, direct, is_containment}
+use Rattle.hs_graph.proofs.Slots.{found}
+use Rattle.hs_expr.proofs.Items.{All-at}
 
 -- Two tests one behind the other.
 pub filter-both : {A : Type 0} (p q : A → Bool) (xs : List A) → filter q (filter p xs) ≡ filter (λ x. p x && q x) xs
@@ -28,7 +29,7 @@ filter-both {A} p q (x ∷ xs) = go (p x) (q x) (filter-both p q xs)
     go true b e = ap (λ ys. cond (q x) (x ∷ ys) ys) e
     go false b e = e
 
-pub contents-both : (m : Metamodel) (g : Graph) (n : ℕ) → contents_of m g n ≡ map (λ (e : Edge). e.target) (filter (λ (e : Edge). eqb e.source n && is_containment m e.reference) g.edges)
+pub contents-both : (m : Metamodel) (g : Graph) (n : ℕ) → contained_objects m g n ≡ map (λ (e : Edge). e.target) (filter (λ (e : Edge). eqb e.source n && is_containment m e.reference) g.edges)
 contents-both m g n = ap (map (λ (e : Edge). e.target)) (filter-both (λ (e : Edge). eqb e.source n) (λ (e : Edge). is_containment m e.reference) g.edges)
 
 -- ---- sources are numbers that objects can have
@@ -101,47 +102,47 @@ slice_get-range a zero i h = absurd (omega arith)
 slice_get-range a (suc n) zero h = let same : a ≡ a + 0 = omega arith in ap Some same
 slice_get-range a (suc n) (suc i) h = let same : a + 1 + i ≡ a + suc i = omega arith in slice_get-range (a + 1) n i (omega arith) ∙ ap Some same
 
-row-within : (m : Metamodel) (g : Graph) (n : ℕ) → n < g.next_object → slice_get (contents m g) n ≡ Some (contents_of m g n)
+row-within : (m : Metamodel) (g : Graph) (n : ℕ) → n < g.next_object → slice_get (containment_lists m g) n ≡ Some (contained_objects m g n)
 row-within m g n h =
     let same : 0 + n ≡ n = omega arith in
-    slice_get-map (contents_of m g) (range_with_len 0 g.next_object) n
-    ∙ ap (option_map (contents_of m g)) (slice_get-range 0 g.next_object n h)
-    ∙ ap (λ k. Some (contents_of m g k)) same
+    slice_get-map (contained_objects m g) (range_with_len 0 g.next_object) n
+    ∙ ap (option_map (contained_objects m g)) (slice_get-range 0 g.next_object n h)
+    ∙ ap (λ k. Some (contained_objects m g k)) same
 
-length-contents : (m : Metamodel) (g : Graph) (a n : ℕ) → length (map (contents_of m g) (range_with_len a n)) ≡ n
+length-contents : (m : Metamodel) (g : Graph) (a n : ℕ) → length (map (contained_objects m g) (range_with_len a n)) ≡ n
 length-contents m g a zero = refl
 length-contents m g a (suc n) = ap suc (length-contents m g (a + 1) n)
 
-to_contains : (m : Metamodel) (g : Graph) (n k : ℕ) → below.Extends (contents m g) n k → Contains m g n k
-to_contains m g n k is = go (slice_get (contents m g) n) refl is
+to_contains : (m : Metamodel) (g : Graph) (n k : ℕ) → below.HasEdge (containment_lists m g) n k → Contains m g n k
+to_contains m g n k is = go (slice_get (containment_lists m g) n) refl is
   where
-    go : (o : Option (List ℕ)) → slice_get (contents m g) n ≡ o → IsSomeAnd o (λ numbers. has numbers k ≡ true) → Contains m g n k
+    go : (o : Option (List ℕ)) → slice_get (containment_lists m g) n ≡ o → IsSomeAnd o (λ numbers. has numbers k ≡ true) → Contains m g n k
     go None e s = absurd s
     go (Some row) e s =
-        let within = slice_get_within (contents m g) n row e in
+        let within = slice_get_within (containment_lists m g) n row e in
         let here = row-within m g n (omega (arith, within, length-contents m g 0 g.next_object)) in
         subst (λ (o : Option (List ℕ)). IsSomeAnd o (λ numbers. has numbers k ≡ true)) here is
 
-to_extends : (m : Metamodel) (g : Graph) (n k : ℕ) → IsTyped m g → Contains m g n k → below.Extends (contents m g) n k
+to_extends : (m : Metamodel) (g : Graph) (n k : ℕ) → IsTyped m g → Contains m g n k → below.HasEdge (containment_lists m g) n k
 to_extends m g n k typed is =
     let within = contained-source (λ (e : Edge). is_containment m e.reference) n k g.next_object g.edges (sources-below m g typed) (ap (λ ks. has ks k) (sym (contents-both m g n)) ∙ is) in
     subst (λ (o : Option (List ℕ)). IsSomeAnd o (λ numbers. has numbers k ≡ true)) (sym (row-within m g n within)) is
 
-to_inside : (m : Metamodel) (g : Graph) (n k : ℕ) → below.IsBelow (contents m g) n k → IsInside m g n k
+to_inside : (m : Metamodel) (g : Graph) (n k : ℕ) → below.Reaches (containment_lists m g) n k → IsInside m g n k
 to_inside m g n k (below.direct _ _ step) = direct n k (to_contains m g n k step)
 to_inside m g n k (below.by_way_of _ j _ step rest) = by_way_of n j k (to_contains m g n j step) (to_inside m g j k rest)
 
-to_below : (m : Metamodel) (g : Graph) (n k : ℕ) → IsTyped m g → IsInside m g n k → below.IsBelow (contents m g) n k
+to_below : (m : Metamodel) (g : Graph) (n k : ℕ) → IsTyped m g → IsInside m g n k → below.Reaches (containment_lists m g) n k
 to_below m g n k typed (direct _ _ step) = below.direct n k (to_extends m g n k typed step)
 to_below m g n k typed (by_way_of _ j _ step rest) = below.by_way_of n j k (to_extends m g n j typed step) (to_below m g j k typed rest)
 
 -- The counted steps say the relation.
-pub inside_says : (m : Metamodel) (g : Graph) (n k : ℕ) → IsTyped m g → (below.is_below (contents m g) n k ≡ true) ↔ IsInside m g n k
-inside_says m g n k typed = (λ e. to_inside m g n k ((says_below (contents m g) n k).0 e), λ i. (says_below (contents m g) n k).1 (to_below m g n k typed i))
+pub inside_says : (m : Metamodel) (g : Graph) (n k : ℕ) → IsTyped m g → (below.reaches (containment_lists m g) n k ≡ true) ↔ IsInside m g n k
+inside_says m g n k typed = (λ e. to_inside m g n k ((says_reaches (containment_lists m g) n k).0 e), λ i. (says_reaches (containment_lists m g) n k).1 (to_below m g n k typed i))
 
 -- What is contained is a number that objects can have.
-pub contents-whole : (m : Metamodel) (g : Graph) → IsTyped m g → IsWhole (contents m g)
+pub contents-whole : (m : Metamodel) (g : Graph) → IsTyped m g → TargetsAreVertices (containment_lists m g)
 contents-whole m g typed n k step =
-    let inside = (contained-below m g n k typed (to_contains m g n k (leads-extends (contents m g) n k step))).1 in
+    let inside = (contained-below m g n k typed (to_contains m g n k (edge-from_test (containment_lists m g) n k step))).1 in
     let long = length-contents m g 0 g.next_object in
     omega (arith, inside, long)

@@ -1,10 +1,8 @@
-pub mod Conformance
 pub mod Decimals
 pub mod Lists
 pub mod Rows
 pub mod Places
 pub mod Naming
-pub mod Told
 pub mod Hash
 pub mod Clean
 pub mod Slots

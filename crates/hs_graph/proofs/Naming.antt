@@ -5,7 +5,8 @@ use Rattle.std.proofs.lemmas.List.{drop_more}
 use Rattle.std.proofs.lemmas.Option.{none-some, same_Some}
 use Rattle.hs_expr.specs.Verdict.{verdict, fault_if}
 use Rattle.hs_graph.specs.declared.raw.RawObject.{RawObject}
-use Rattle.hs_graph.specs.Meaning.{next_name}
+use Rattle.hs_graph.specs.Lookups.{object_names}
+use Rattle.hs_graph.specs.Meaning.{next_name_after}
 use Rattle.hs_graph.specs.Names.{next_after}
 
 -- Where the test gives a number, it is true, and the number is that one.
@@ -22,8 +23,8 @@ larger_of_three a b c = omega (arith, clamps)
 
 -- The next name, one object on.
 pub next_step : (objects : List RawObject) (i : ℕ) (object : RawObject) (old new : ℕ) → i < length objects → object ≡ get_or objects i object → new ≡ max old (next_after object.name) →
-    max new (next_name (drop (i + 1) objects)) ≡ max old (next_name (drop i objects))
+    max new (next_name_after (object_names (drop (i + 1) objects))) ≡ max old (next_name_after (object_names (drop i objects)))
 next_step objects i object old new h at is =
-    ap (λ k. max k (next_name (drop (i + 1) objects))) is
-    ∙ larger_of_three old (next_after object.name) (next_name (drop (i + 1) objects))
-    ∙ ap (λ os. max old (next_name os)) (sym (drop_more objects i object h ∙ ap (λ o. o ∷ drop (i + 1) objects) (sym at)))
+    ap (λ k. max k (next_name_after (object_names (drop (i + 1) objects)))) is
+    ∙ larger_of_three old (next_after object.name) (next_name_after (object_names (drop (i + 1) objects)))
+    ∙ ap (λ os. max old (next_name_after (object_names os))) (sym (drop_more objects i object h ∙ ap (λ o. o ∷ drop (i + 1) objects) (sym at)))

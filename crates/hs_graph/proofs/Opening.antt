@@ -3,7 +3,7 @@ use Rattle.std.proofs.Common.{◌≡◌, ◌≤◌, ◌<◌, ◌+◌, ◌++◌, 
 use Rattle.std.specs.List.{All, Any, find, flat_map, list_any, position_or_len, range_with_len}
 use Rattle.std.specs.Option.{option_map, option_map_or, unwrap_or}
 use Rattle.std.proofs.Math.Nat.{le_refl}
-use Rattle.std.proofs.lemmas.Bool.{both_ways, eq-eqb, eqb-true, ne_eqb, false≢true}
+use Rattle.std.proofs.lemmas.Bool.{both_ways, eq-eqb, eqb-true, ne_eqb, or_parts, false≢true}
 use Rattle.std.proofs.lemmas.Bool.Decides.{nat_tests}
 use Rattle.std.proofs.lemmas.Int.{clamps}
 use Rattle.std.proofs.lemmas.List.Elements.{All-nil, All-cons, All-head, All-tail, All-append, All-weaker}
@@ -13,23 +13,26 @@ use Rattle.hs_types.specs.declared.graph.Edge.{Edge}
 use Rattle.hs_types.specs.declared.graph.Graph.{Graph}
 use Rattle.hs_types.specs.declared.graph.Object.{Object}
 use Rattle.hs_types.specs.declared.meta.Metamodel.{Metamodel}
-use Rattle.hs_types.specs.Lists.{Differ, EachPair, Rise, has, same_text}
+use Rattle.hs_expr.specs.Lists.{Differ, EachPair, Rise, has, same_text}
 use Rattle.hs_types.specs.Metamodel.{Conforms, IsMeta, feature_at, features_of, target_of}
 use Rattle.hs_types.specs.TypedGraph.{AreSlotsOf, CanJoin, HasFeature, IsOf, IsOpening, Stands, hash_name, object_at}
 use Rattle.hs_graph.specs.declared.edges.Link.{Link}
 use Rattle.hs_graph.specs.declared.fault.GraphPlace.TheVariants as place
 use Rattle.hs_graph.specs.declared.raw.RawObject.{RawObject}
 use Rattle.hs_graph.specs.declared.raw.RawRef.{RawRef}
-use Rattle.hs_graph.specs.Faults.{both_conform, faults, leads_to, reach_faults, ref_faults_at, target_faults_at, targets_faults}
-use Rattle.hs_graph.specs.Links.{all_links, link_of, links_from, links_of, targets_at}
-use Rattle.hs_graph.specs.Lookups.{class_of, classes_of, is_reference, is_reference_named, object_names, place_of, reference_named}
-use Rattle.hs_graph.specs.Meaning.{edges_from, meant, next_name, object_of, objects_from}
+use Rattle.hs_graph.specs.Faults.{both_conform, graph_faults, leads_to, reach_faults, ref_faults_at, target_faults_at, targets_faults}
+use Rattle.hs_graph.specs.Links.{all_links, link_of, links_of_objects, links_of, targets_at}
+use Rattle.hs_graph.specs.Lookups.{class_of_object, classes_of_objects, is_reference, is_reference_named, object_names, place_of, reference_named}
+use Rattle.hs_graph.specs.Meaning.{edges_of_links, graph_of, next_name_after, object_of_raw, objects_from}
 use Rattle.hs_graph.specs.Names.{hash_number, is_object_name, next_after}
-use Rattle.hs_graph.proofs.Clean.{Clean, clean, clean_at, no_test, not_false, some-not_none}
-use Rattle.hs_graph.proofs.Conformance.{conforms_to}
+use Rattle.hs_graph.proofs.Clean.{Clean, clean, not_false}
+use Rattle.hs_types.proofs.Conforming.{conforms_to}
 use Rattle.hs_graph.proofs.Hash.{name-of_hash, number-of_hash}
-use Rattle.hs_graph.proofs.Places.{is_some-position}
-use Rattle.hs_graph.proofs.Slots.{features-named, found, has-at, same_feature, slots-sound, slots-whole}
+use Rattle.hs_expr.proofs.Items.{is_some-position, has_at, All-across, EachPair-all}
+use Rattle.hs_graph.proofs.Slots.{features-named, found, same_feature, slots-sound, slots-whole}
+use Rattle.hs_expr.proofs.Clean.{some-not_none, no_test, clean_at}
+use Rattle.hs_expr.proofs.Lists.{EachPair-append, All-rest_of}
+use Rattle.hs_expr.proofs.Keys.{differ-unmapped}
 
 -- ---- objects
 
@@ -37,16 +40,16 @@ length-objects : (m : Metamodel) (n : ℕ) (ws : List RawObject) → length (obj
 length-objects m n [] = refl
 length-objects m n (w ∷ ws) = ap suc (length-objects m (n + 1) ws)
 
-length-edges : (n : ℕ) (ls : List Link) → length (edges_from n ls) ≡ length ls
+length-edges : (n : ℕ) (ls : List Link) → length (edges_of_links n ls) ≡ length ls
 length-edges n [] = refl
 length-edges n (l ∷ ls) = ap suc (length-edges (n + 1) ls)
 
 found_at : (m : Metamodel) (n k c : ℕ) (ws : List RawObject) (w : RawObject) → slice_get ws k ≡ Some w → c ≡ n + k →
-    find (λ (o : Object). eqb o.number c) (objects_from m n ws) ≡ Some (object_of m c w)
+    find (λ (o : Object). eqb o.number c) (objects_from m n ws) ≡ Some (object_of_raw m c w)
 found_at m n k c [] w e h = absurd (none-some w e)
 found_at m n zero c (v ∷ vs) w e h =
     let here : n ≡ c = sym (h ∙ add-zero n) in
-    rw (eq-eqb n c here) (ap (λ i. Some (object_of m i v)) here ∙ ap (λ (x : RawObject). Some (object_of m c x)) (same_Some v w e))
+    rw (eq-eqb n c here) (ap (λ i. Some (object_of_raw m i v)) here ∙ ap (λ (x : RawObject). Some (object_of_raw m c x)) (same_Some v w e))
 found_at m n (suc k) c (v ∷ vs) w e h =
     rw (ne_eqb n c (λ same. absurd (omega arith))) (found_at m (n + 1) k c vs w e (omega arith))
 
@@ -76,32 +79,24 @@ objects-fit : (m : Metamodel) (ws : List RawObject) (n : ℕ) (vs : List RawObje
 objects-fit m ws n [] is c at = All-nil (λ o. AreSlotsOf m o.class o.slots)
 objects-fit m ws n (v ∷ vs) is c at =
     let here = first_stands n v vs ws at in
-    All-cons (λ (o : Object). AreSlotsOf m o.class o.slots) (object_of m n v) (objects_from m (n + 1) vs)
-    (c.concrete n v here, slots-whole m (class_of m v) v.attrs, slots-sound m (class_of m v) n v.attrs is (c.attrs n v here))
+    All-cons (λ (o : Object). AreSlotsOf m o.class o.slots) (object_of_raw m n v) (objects_from m (n + 1) vs)
+    (c.concrete n v here, slots-whole m (class_of_object m v) v.attrs, slots-sound m (class_of_object m v) n v.attrs is (c.attrs n v here))
     (objects-fit m ws (n + 1) vs is c (next_stand n v vs ws at))
 
 -- ---- names
 
 none_same : (names : List (List ℕ)) (name : List ℕ) → ((k : ℕ) (t : List ℕ) → slice_get names k ≡ Some t → list_any (same_text t) (name ∷ take k names) ≡ false) → All (λ t. name ≡ t → ⊥) names
-none_same names name h = all_at (λ t. name ≡ t → ⊥) names (λ k t at same. both_ways (same_text t name) (left_false (same_text t name) (list_any (same_text t) (take k names)) (h k t at)) ((bytes_eq-Decides t name).1 (sym same)))
+none_same names name h = all_at (λ t. name ≡ t → ⊥) names (λ k t at same. both_ways (same_text t name) (or_parts (same_text t name) (list_any (same_text t) (take k names)) (h k t at)).0 ((bytes_eq-Decides t name).1 (sym same)))
   where
     all_at : {A : Type 0} (P : A → Type 0) (xs : List A) → ((k : ℕ) (x : A) → slice_get xs k ≡ Some x → P x) → All P xs
     all_at P [] h = All-nil P
     all_at P (x ∷ xs) h = All-cons P x xs (h 0 x refl) (all_at P xs (λ k y at. h (suc k) y at))
 
-    left_false : (a b : Bool) → (a || b) ≡ false → a ≡ false
-    left_false true b e = e
-    left_false false b e = refl
-
-right_false : (a b : Bool) → (a || b) ≡ false → b ≡ false
-right_false true b e = absurd (false≢true (sym e))
-right_false false b e = e
-
 names-differ : (names : List (List ℕ)) → ((k : ℕ) (t : List ℕ) → slice_get names k ≡ Some t → list_any (same_text t) (take k names) ≡ false) → Differ names
 names-differ [] h = tt
 names-differ (name ∷ names) h =
     let later = λ (k : ℕ) (t : List ℕ) (at : slice_get names k ≡ Some t). h (suc k) t at in
-    (none_same names name later, names-differ names (λ k t at. right_false (same_text t name) (list_any (same_text t) (take k names)) (later k t at)))
+    (none_same names name later, names-differ names (λ k t at. (or_parts (same_text t name) (list_any (same_text t) (take k names)) (later k t at)).1))
 
 name-at : (ws : List RawObject) (k : ℕ) (t : List ℕ) → slice_get (object_names ws) k ≡ Some t → (w : RawObject) × (slice_get ws k ≡ Some w) × (w.name ≡ t)
 name-at [] k t e = absurd (none-some t e)
@@ -117,10 +112,10 @@ clean-differ m ws c = names-differ (object_names ws) (λ k t at.
 after-hash : (name : List ℕ) (k : ℕ) → name ≡ hash_name k → next_after name ≡ k + 1
 after-hash name k e = ap next_after e ∙ ap (λ (o : Option ℕ). option_map_or (λ k. k + 1) o 0) (number-of_hash k)
 
-names-below : (m : Metamodel) (n most : ℕ) (ws : List RawObject) → next_name ws ≤ most → All (λ (o : Object). (k : ℕ) → o.name ≡ hash_name k → k < most) (objects_from m n ws)
+names-below : (m : Metamodel) (n most : ℕ) (ws : List RawObject) → next_name_after (object_names ws) ≤ most → All (λ (o : Object). (k : ℕ) → o.name ≡ hash_name k → k < most) (objects_from m n ws)
 names-below m n most [] h = All-nil (λ o. (k : ℕ) → o.name ≡ hash_name k → k < most)
 names-below m n most (w ∷ ws) h =
-    All-cons (λ (o : Object). (k : ℕ) → o.name ≡ hash_name k → k < most) (object_of m n w) (objects_from m (n + 1) ws)
+    All-cons (λ (o : Object). (k : ℕ) → o.name ≡ hash_name k → k < most) (object_of_raw m n w) (objects_from m (n + 1) ws)
     (λ k e. let after = after-hash w.name k e in omega (arith, clamps, h, after))
     (names-below m (n + 1) most ws (omega (arith, clamps, h)))
 
@@ -138,12 +133,12 @@ larger-is a b c e = go (eqb a c) refl
     go true t = inl (eqb-true a c t)
     go false t = inr (grind (arith, clamps, e))
 
-next-there : (m : Metamodel) (n k : ℕ) (ws : List RawObject) → suc k ≡ next_name ws → Any (λ (o : Object). o.name ≡ hash_name k) (objects_from m n ws)
+next-there : (m : Metamodel) (n k : ℕ) (ws : List RawObject) → suc k ≡ next_name_after (object_names ws) → Any (λ (o : Object). o.name ≡ hash_name k) (objects_from m n ws)
 next-there m n k [] e = absurd (omega (arith, e))
-next-there m n k (w ∷ ws) e = go (next-there m (n + 1) k ws) (larger-is (next_after w.name) (next_name ws) (suc k) (sym e))
+next-there m n k (w ∷ ws) e = go (next-there m (n + 1) k ws) (larger-is (next_after w.name) (next_name_after (object_names ws)) (suc k) (sym e))
   where
-    go : (suc k ≡ next_name ws → Any (λ (o : Object). o.name ≡ hash_name k) (objects_from m (n + 1) ws)) → (next_after w.name ≡ suc k) ⊎ (next_name ws ≡ suc k) → Any (λ (o : Object). o.name ≡ hash_name k) (objects_from m n (w ∷ ws))
-    go later (inl here) = (0, object_of m n w, omega arith, refl, hash-after w.name k here)
+    go : (suc k ≡ next_name_after (object_names ws) → Any (λ (o : Object). o.name ≡ hash_name k) (objects_from m (n + 1) ws)) → (next_after w.name ≡ suc k) ⊎ (next_name_after (object_names ws) ≡ suc k) → Any (λ (o : Object). o.name ≡ hash_name k) (objects_from m n (w ∷ ws))
+    go later (inl here) = (0, object_of_raw m n w, omega arith, refl, hash-after w.name k here)
     go later (inr there) = let rest = later (sym there) in (suc rest.0, rest.1, omega (arith, rest.2), rest.3, rest.4)
 
 -- ---- what stands in the graph
@@ -152,9 +147,9 @@ next-there m n k (w ∷ ws) e = go (next-there m (n + 1) k ws) (larger-is (next_
 abbrev HasObjects : Metamodel → List RawObject → Graph → Type 0
 HasObjects m ws g = g.objects ≡ objects_from m 0 ws
 
-stands : (m : Metamodel) (ws : List RawObject) (g : Graph) (P : ℕ → Type 0) (n : ℕ) (w : RawObject) → HasObjects m ws g → slice_get ws n ≡ Some w → P (class_of m w) → Stands g P n
+stands : (m : Metamodel) (ws : List RawObject) (g : Graph) (P : ℕ → Type 0) (n : ℕ) (w : RawObject) → HasObjects m ws g → slice_get ws n ≡ Some w → P (class_of_object m w) → Stands g P n
 stands m ws g P n w is e p =
-    let at : object_at g n ≡ Some (object_of m n w) =
+    let at : object_at g n ≡ Some (object_of_raw m n w) =
     ap (λ os. find (λ (o : Object). eqb o.number n) os) is ∙ found_at m 0 n n ws w e (omega arith) in
     subst (λ (o : Option Object). IsSomeAnd o (λ object. P object.class)) (sym at) p
 
@@ -171,18 +166,18 @@ some-and : {P Q : ℕ → Type 0} (o : Option ℕ) → ((x : ℕ) → P x → Q 
 some-and None h s = s
 some-and (Some x) h s = h x s
 
-target-joins : (m : Metamodel) (ws : List RawObject) (g : Graph) (f i r t : ℕ) (name : List ℕ) → HasObjects m ws g → target_faults_at m (object_names ws) (classes_of m ws) f i r t name ≡ [] →
+target-joins : (m : Metamodel) (ws : List RawObject) (g : Graph) (f i r t : ℕ) (name : List ℕ) → HasObjects m ws g → target_faults_at m (object_names ws) (classes_of_objects m ws) f i r t name ≡ [] →
     IsSomeAnd (target_of m f) (λ class. IsOf m g class (unwrap_or (place_of (object_names ws) name) 0))
 target-joins m ws g f i r t name is e = placed (place_of (object_names ws) name) e
   where
-    of-class : (j : ℕ) (o : Option RawObject) → slice_get ws j ≡ o → both_conform m (option_map (class_of m) o) (target_of m f) ≡ true → IsSomeAnd (target_of m f) (λ class. IsOf m g class j)
+    of-class : (j : ℕ) (o : Option RawObject) → slice_get ws j ≡ o → both_conform m (option_map (class_of_object m) o) (target_of m f) ≡ true → IsSomeAnd (target_of m f) (λ class. IsOf m g class j)
     of-class j None at e = absurd (false≢true e)
-    of-class j (Some w) at e = some-and (target_of m f) (λ above c. stands m ws g (λ k. Conforms m k above) j w is at c) (conform-to m (class_of m w) (target_of m f) e)
+    of-class j (Some w) at e = some-and (target_of m f) (λ above c. stands m ws g (λ k. Conforms m k above) j w is at c) (conform-to m (class_of_object m w) (target_of m f) e)
 
-    placed : (o : Option ℕ) → reach_faults m (classes_of m ws) f (place.Target i r t) o ≡ [] → IsSomeAnd (target_of m f) (λ class. IsOf m g class (unwrap_or o 0))
+    placed : (o : Option ℕ) → reach_faults m (classes_of_objects m ws) f (place.Target i r t) o ≡ [] → IsSomeAnd (target_of m f) (λ class. IsOf m g class (unwrap_or o 0))
     placed None e = absurd (some-not_none _ [] e)
     placed (Some j) e = of-class j (slice_get ws j) refl
-        (ap (λ (o : Option ℕ). both_conform m o (target_of m f)) (sym (slice_get-map (class_of m) ws j)) ∙ not_false (leads_to m (classes_of m ws) f j) (no_test _ _ e))
+        (ap (λ (o : Option ℕ). both_conform m o (target_of m f)) (sym (slice_get-map (class_of_object m) ws j)) ∙ not_false (leads_to m (classes_of_objects m ws) f j) (no_test _ _ e))
 
 joins-targets : (m : Metamodel) (ws : List RawObject) (g : Graph) (n f i r : ℕ) (ts : List (List ℕ)) → HasObjects m ws g → HasFeature m g f n →
     ((t : ℕ) (name : List ℕ) → slice_get ts t ≡ Some name → IsSomeAnd (target_of m f) (λ class. IsOf m g class (unwrap_or (place_of (object_names ws) name) 0))) →
@@ -195,7 +190,7 @@ joins-targets m ws g n f i r (t ∷ ts) is has fine =
 
 -- The edges of one feature.
 joins-feature : (m : Metamodel) (ws : List RawObject) (g : Graph) (n class f : ℕ) (refs : List RawRef) → IsMeta m → HasObjects m ws g → HasFeature m g f n → has (features_of m class) f ≡ true →
-    ((r : ℕ) (ref : RawRef) → slice_get refs r ≡ Some ref → ref_faults_at m (object_names ws) (classes_of m ws) class n r ref ≡ []) →
+    ((r : ℕ) (ref : RawRef) → slice_get refs r ≡ Some ref → ref_faults_at m (object_names ws) (classes_of_objects m ws) class n r ref ≡ []) →
     All (Joins m g) (map (link_of (object_names ws) n f) (targets_at m refs f))
 joins-feature m ws g n class f refs meta is has_f h fine = go (find (λ (ref : RawRef). is_reference_named m ref.name f) refs) refl
   where
@@ -205,12 +200,12 @@ joins-feature m ws g n class f refs meta is has_f h fine = go (find (λ (ref : R
         (let here = found (λ (ref : RawRef). is_reference_named m ref.name f) refs ref e in
         named here.place here.passes (reference_named m class ref.name) refl (fine here.place ref here.at))
       where
-        named : (r : ℕ) → is_reference_named m ref.name f ≡ true → (o : Option ℕ) → reference_named m class ref.name ≡ o → targets_faults m (object_names ws) (classes_of m ws) n r ref.targets (reference_named m class ref.name) ≡ [] → All (Joins m g) (map (link_of (object_names ws) n f) ref.targets)
-        named r passes None at none = absurd (some-not_none _ [] (sym (ap (targets_faults m (object_names ws) (classes_of m ws) n r ref.targets) at) ∙ none))
+        named : (r : ℕ) → is_reference_named m ref.name f ≡ true → (o : Option ℕ) → reference_named m class ref.name ≡ o → targets_faults m (object_names ws) (classes_of_objects m ws) n r ref.targets (reference_named m class ref.name) ≡ [] → All (Joins m g) (map (link_of (object_names ws) n f) ref.targets)
+        named r passes None at none = absurd (some-not_none _ [] (sym (ap (targets_faults m (object_names ws) (classes_of_objects m ws) n r ref.targets) at) ∙ none))
         named r passes (Some k) at none =
             let there = found (is_reference_named m ref.name) (features_of m class) k at in
-            let same : k ≡ f = same_feature m class is_reference ref.name k f meta (has-at (features_of m class) there.place k there.at) h there.passes passes in
-            let clean_targets = clean_at (target_faults_at m (object_names ws) (classes_of m ws) k n r) ref.targets (sym (ap (targets_faults m (object_names ws) (classes_of m ws) n r ref.targets) at) ∙ none) in
+            let same : k ≡ f = same_feature m class is_reference ref.name k f meta (has_at (features_of m class) there.place k there.at) h there.passes passes in
+            let clean_targets = clean_at (target_faults_at m (object_names ws) (classes_of_objects m ws) k n r) ref.targets (sym (ap (targets_faults m (object_names ws) (classes_of_objects m ws) n r ref.targets) at) ∙ none) in
             joins-targets m ws g n f n r ref.targets is has_f
             (λ t name stands_at. subst (λ i. IsSomeAnd (target_of m i) (λ class. IsOf m g class (unwrap_or (place_of (object_names ws) name) 0))) same (target-joins m ws g k n r t name is (clean_targets t name stands_at)))
 
@@ -232,25 +227,25 @@ joins-features m ws g n ts (f ∷ fs) h =
     later-has : (k f : ℕ) (fs : List ℕ) → has fs k ≡ true → has (f ∷ fs) k ≡ true
     later-has k f fs t = or_true (eqb k f) (has fs k) t
 
-joins-links : (m : Metamodel) (ws : List RawObject) (g : Graph) (n : ℕ) (vs : List RawObject) → IsMeta m → Clean m ws → HasObjects m ws g → StandAt n vs ws → All (Joins m g) (links_from m (object_names ws) n vs)
+joins-links : (m : Metamodel) (ws : List RawObject) (g : Graph) (n : ℕ) (vs : List RawObject) → IsMeta m → Clean m ws → HasObjects m ws g → StandAt n vs ws → All (Joins m g) (links_of_objects m (object_names ws) n vs)
 joins-links m ws g n [] meta c is at = All-nil (Joins m g)
 joins-links m ws g n (v ∷ vs) meta c is at =
     let here = first_stands n v vs ws at in
-    All-append (Joins m g) (links_of m (object_names ws) n (class_of m v) v.refs) (links_from m (object_names ws) (n + 1) vs)
-    (joins-features m ws g n (targets_at m v.refs) (features_of m (class_of m v))
-    (λ f t. joins-feature m ws g n (class_of m v) f v.refs meta is (stands m ws g (λ k. has (features_of m k) f ≡ true) n v is here t) t (c.refs n v here)))
+    All-append (Joins m g) (links_of m (object_names ws) n (class_of_object m v) v.refs) (links_of_objects m (object_names ws) (n + 1) vs)
+    (joins-features m ws g n (targets_at m v.refs) (features_of m (class_of_object m v))
+    (λ f t. joins-feature m ws g n (class_of_object m v) f v.refs meta is (stands m ws g (λ k. has (features_of m k) f ≡ true) n v is here t) t (c.refs n v here)))
     (joins-links m ws g (n + 1) vs meta c is (next_stand n v vs ws at))
 
 weaker : {A : Type 0} (P Q : A → Type 0) (xs : List A) → ((x : A) → P x → Q x) → All P xs → All Q xs
 weaker P Q xs h a = All-weaker P Q h xs a
 
 -- A fact on links, of the edges that they are.
-edges-all : (P : ℕ → ℕ → ℕ → Type 0) (n : ℕ) (ls : List Link) → All (λ l. P l.source l.reference l.target) ls → All (λ (e : Edge). P e.source e.reference e.target) (edges_from n ls)
+edges-all : (P : ℕ → ℕ → ℕ → Type 0) (n : ℕ) (ls : List Link) → All (λ l. P l.source l.reference l.target) ls → All (λ (e : Edge). P e.source e.reference e.target) (edges_of_links n ls)
 edges-all P n [] a = All-nil (λ e. P e.source e.reference e.target)
 edges-all P n (l ∷ ls) a =
-    All-cons (λ (e : Edge). P e.source e.reference e.target) _ (edges_from (n + 1) ls) (All-head (λ (l : Link). P l.source l.reference l.target) l ls a) (edges-all P (n + 1) ls (All-tail (λ (l : Link). P l.source l.reference l.target) l ls a))
+    All-cons (λ (e : Edge). P e.source e.reference e.target) _ (edges_of_links (n + 1) ls) (All-head (λ (l : Link). P l.source l.reference l.target) l ls a) (edges-all P (n + 1) ls (All-tail (λ (l : Link). P l.source l.reference l.target) l ls a))
 
-numbers-edges : (n : ℕ) (ls : List Link) → map (λ (e : Edge). e.number) (edges_from n ls) ≡ range_with_len n (length ls)
+numbers-edges : (n : ℕ) (ls : List Link) → map (λ (e : Edge). e.number) (edges_of_links n ls) ≡ range_with_len n (length ls)
 numbers-edges n [] = refl
 numbers-edges n (l ∷ ls) = ap (λ ns. n ∷ ns) (numbers-edges (n + 1) ls)
 
@@ -260,19 +255,10 @@ numbers-edges n (l ∷ ls) = ap (λ ns. n ∷ ns) (numbers-edges (n + 1) ls)
 abbrev Before : Metamodel → Graph → ℕ → ℕ → ℕ → ℕ → Type 0
 Before m g s f t k = (s < t) ⊎ ((s ≡ t) × Stands g (λ c. position_or_len (eqb f) (features_of m c) ≤ position_or_len (eqb k) (features_of m c)) s)
 
-EachPair-append : {A : Type 0} (R : A → A → Type 0) (xs ys : List A) → EachPair R xs → EachPair R ys → All (λ x. All (R x) ys) xs → EachPair R (xs ++ ys)
-EachPair-append R [] ys a b c = b
-EachPair-append {A} R (x ∷ xs) ys a b c =
-    (All-append (R x) xs ys a.0 (All-head (λ (x : A). All (R x) ys) x xs c), EachPair-append R xs ys a.1 b (All-tail (λ (x : A). All (R x) ys) x xs c))
-
-All-behind : {A : Type 0} (P : A → Type 0) (xs ys : List A) → All P (xs ++ ys) → All P ys
-All-behind P [] ys a = a
-All-behind P (x ∷ xs) ys a = All-behind P xs ys (All-tail P x (xs ++ ys) a)
-
 position-seam : (pre : List ℕ) (f : ℕ) (post : List ℕ) → Differ (pre ++ f ∷ post) → position_or_len (eqb f) (pre ++ f ∷ post) ≡ length pre
 position-seam [] f post d = rw (eq-eqb f f refl) refl
 position-seam (x ∷ pre) f post d =
-    let apart : x ≡ f → ⊥ = All-head (λ y. x ≡ y → ⊥) f post (All-behind (λ y. x ≡ y → ⊥) pre (f ∷ post) d.0) in
+    let apart : x ≡ f → ⊥ = All-head (λ y. x ≡ y → ⊥) f post (All-rest_of (λ y. x ≡ y → ⊥) pre (f ∷ post) d.0) in
     rw (ne_eqb f x (λ e. apart (sym e))) (ap (λ n. 1 + n) (position-seam pre f post d.1) ∙ (let e : 1 + length pre ≡ suc (length pre) = omega arith in e))
 
 -- The links of a feature have its number and their source.
@@ -301,13 +287,6 @@ late-links all names n ts pre (f ∷ fs) e d =
 abbrev LinkBefore : Metamodel → Graph → Link → Link → Type 0
 LinkBefore m g l k = Before m g l.source l.reference k.source k.reference
 
-pairs-all : {A : Type 0} (R : A → A → Type 0) (P Q : A → Type 0) → ((x y : A) → P x → Q y → R x y) → (xs ys : List A) → All P xs → All Q ys → All (λ x. All (R x) ys) xs
-pairs-all R P Q h xs ys a b = All-weaker P (λ x. All (R x) ys) (λ x p. All-weaker Q (R x) (λ y q. h x y p q) ys b) xs a
-
-pairs-same : {A : Type 0} (R : A → A → Type 0) (P : A → Type 0) → ((x y : A) → P x → P y → R x y) → (xs : List A) → All P xs → EachPair R xs
-pairs-same R P h [] a = tt
-pairs-same R P h (x ∷ xs) a = (All-weaker P (R x) (λ y q. h x y (All-head P x xs a) q) xs (All-tail P x xs a), pairs-same R P h xs (All-tail P x xs a))
-
 -- Within one object: reference by reference.
 order-object : (m : Metamodel) (g : Graph) (names : List (List ℕ)) (n class : ℕ) (ts : ℕ → List (List ℕ)) → ((P : ℕ → Type 0) → P class → Stands g P n) → (pre fs : List ℕ) → features_of m class ≡ pre ++ fs → Differ (features_of m class) →
     EachPair (LinkBefore m g) (flat_map (λ f. map (link_of names n f) (ts f)) fs)
@@ -326,9 +305,9 @@ order-object m g names n class ts at pre (f ∷ fs) e d =
           (at (λ c. position_or_len (eqb l.reference) (features_of m c) ≤ position_or_len (eqb k.reference) (features_of m c)) le),
     ) in holds in
     EachPair-append (LinkBefore m g) (map (link_of names n f) (ts f)) rest
-    (pairs-same (LinkBefore m g) Own (λ l k p q. before l k p.0 q.0 (let same = ap (λ i. position_or_len (eqb i) all) (p.1 ∙ sym q.1) in omega (arith, same))) (map (link_of names n f) (ts f)) (chunk names n f (ts f)))
+    (EachPair-all (LinkBefore m g) Own (λ l k p q. before l k p.0 q.0 (let same = ap (λ i. position_or_len (eqb i) all) (p.1 ∙ sym q.1) in omega (arith, same))) (map (link_of names n f) (ts f)) (chunk names n f (ts f)))
     (order-object m g names n class ts at (pre ++ f ∷ []) fs longer d)
-    (pairs-all (LinkBefore m g) Own (Late all n (length (pre ++ f ∷ [])))
+    (All-across (LinkBefore m g) Own (Late all n (length (pre ++ f ∷ [])))
     (λ l k p q. before l k p.0 q.source (let same = ap (λ i. position_or_len (eqb i) all) p.1 in omega (arith, same, here, q.late, length-append pre (f ∷ []))))
     (map (link_of names n f) (ts f)) rest (chunk names n f (ts f)) later)
 
@@ -339,47 +318,38 @@ sources-object m names n ts (f ∷ fs) =
     (weaker (λ (l : Link). (l.source ≡ n) × (l.reference ≡ f)) (λ l. l.source ≡ n) (map (link_of names n f) (ts f)) (λ l h. h.0) (chunk names n f (ts f)))
     (sources-object m names n ts fs)
 
-sources-from : (m : Metamodel) (names : List (List ℕ)) (n : ℕ) (vs : List RawObject) → All (λ (l : Link). n ≤ l.source) (links_from m names n vs)
+sources-from : (m : Metamodel) (names : List (List ℕ)) (n : ℕ) (vs : List RawObject) → All (λ (l : Link). n ≤ l.source) (links_of_objects m names n vs)
 sources-from m names n [] = All-nil (λ l. n ≤ l.source)
 sources-from m names n (v ∷ vs) =
-    All-append (λ (l : Link). n ≤ l.source) (links_of m names n (class_of m v) v.refs) (links_from m names (n + 1) vs)
-    (weaker (λ (l : Link). l.source ≡ n) (λ l. n ≤ l.source) (links_of m names n (class_of m v) v.refs) (λ l h. omega (arith, h)) (sources-object m names n (targets_at m v.refs) (features_of m (class_of m v))))
-    (weaker (λ (l : Link). n + 1 ≤ l.source) (λ l. n ≤ l.source) (links_from m names (n + 1) vs) (λ l h. omega (arith, h)) (sources-from m names (n + 1) vs))
-
--- No feature comes twice in a class, since no name does.
-differ-unmapped : {A : Type 0} (h : ℕ → A) (ns : List ℕ) → Differ (map h ns) → Differ ns
-differ-unmapped h [] d = tt
-differ-unmapped {A} h (n ∷ ns) d = (apart ns d.0, differ-unmapped h ns d.1)
-  where
-    apart : (ks : List ℕ) → All (λ (y : A). h n ≡ y → ⊥) (map h ks) → All (λ k. n ≡ k → ⊥) ks
-    apart [] a = All-nil (λ k. n ≡ k → ⊥)
-    apart (k ∷ ks) a = All-cons (λ k. n ≡ k → ⊥) k ks (λ e. All-head (λ (y : A). h n ≡ y → ⊥) (h k) (map h ks) a (ap h e)) (apart ks (All-tail (λ (y : A). h n ≡ y → ⊥) (h k) (map h ks) a))
+    All-append (λ (l : Link). n ≤ l.source) (links_of m names n (class_of_object m v) v.refs) (links_of_objects m names (n + 1) vs)
+    (weaker (λ (l : Link). l.source ≡ n) (λ l. n ≤ l.source) (links_of m names n (class_of_object m v) v.refs) (λ l h. omega (arith, h)) (sources-object m names n (targets_at m v.refs) (features_of m (class_of_object m v))))
+    (weaker (λ (l : Link). n + 1 ≤ l.source) (λ l. n ≤ l.source) (links_of_objects m names (n + 1) vs) (λ l h. omega (arith, h)) (sources-from m names (n + 1) vs))
 
 features-differ : (m : Metamodel) (class : ℕ) → IsMeta m → Differ (features_of m class)
 features-differ m class is = differ-unmapped (λ f. option_map (λ feature. feature.name) (feature_at m f)) (features_of m class) (features-named m class is)
 
-order-links : (m : Metamodel) (ws : List RawObject) (g : Graph) (n : ℕ) (vs : List RawObject) → IsMeta m → HasObjects m ws g → StandAt n vs ws → EachPair (LinkBefore m g) (links_from m (object_names ws) n vs)
+order-links : (m : Metamodel) (ws : List RawObject) (g : Graph) (n : ℕ) (vs : List RawObject) → IsMeta m → HasObjects m ws g → StandAt n vs ws → EachPair (LinkBefore m g) (links_of_objects m (object_names ws) n vs)
 order-links m ws g n [] meta is at = tt
 order-links m ws g n (v ∷ vs) meta is at =
     let names = object_names ws in
     let here = first_stands n v vs ws at in
-    let own = links_of m names n (class_of m v) v.refs in
-    EachPair-append (LinkBefore m g) own (links_from m names (n + 1) vs)
-    (order-object m g names n (class_of m v) (targets_at m v.refs) (λ P p. stands m ws g P n v is here p) [] (features_of m (class_of m v)) refl (features-differ m (class_of m v) meta))
+    let own = links_of m names n (class_of_object m v) v.refs in
+    EachPair-append (LinkBefore m g) own (links_of_objects m names (n + 1) vs)
+    (order-object m g names n (class_of_object m v) (targets_at m v.refs) (λ P p. stands m ws g P n v is here p) [] (features_of m (class_of_object m v)) refl (features-differ m (class_of_object m v) meta))
     (order-links m ws g (n + 1) vs meta is (next_stand n v vs ws at))
-    (pairs-all (LinkBefore m g) (λ (l : Link). l.source ≡ n) (λ (l : Link). n + 1 ≤ l.source) (λ l k p q. inl (omega (arith, p, q))) own (links_from m names (n + 1) vs)
-    (sources-object m names n (targets_at m v.refs) (features_of m (class_of m v))) (sources-from m names (n + 1) vs))
+    (All-across (LinkBefore m g) (λ (l : Link). l.source ≡ n) (λ (l : Link). n + 1 ≤ l.source) (λ l k p q. inl (omega (arith, p, q))) own (links_of_objects m names (n + 1) vs)
+    (sources-object m names n (targets_at m v.refs) (features_of m (class_of_object m v))) (sources-from m names (n + 1) vs))
 
-edges-pairs : (R : ℕ → ℕ → ℕ → ℕ → Type 0) (n : ℕ) (ls : List Link) → EachPair (λ (l k : Link). R l.source l.reference k.source k.reference) ls → EachPair (λ (e f : Edge). R e.source e.reference f.source f.reference) (edges_from n ls)
+edges-pairs : (R : ℕ → ℕ → ℕ → ℕ → Type 0) (n : ℕ) (ls : List Link) → EachPair (λ (l k : Link). R l.source l.reference k.source k.reference) ls → EachPair (λ (e f : Edge). R e.source e.reference f.source f.reference) (edges_of_links n ls)
 edges-pairs R n [] a = tt
 edges-pairs R n (l ∷ ls) a = (edges-all (λ s f t. R l.source l.reference s f) (n + 1) ls a.0, edges-pairs R (n + 1) ls a.1)
 
 -- ---- the graph
 
-clean-opening : (m : Metamodel) (ws : List RawObject) → IsMeta m → Clean m ws → IsOpening m (meant m ws)
-unfolding meant
+clean-opening : (m : Metamodel) (ws : List RawObject) → IsMeta m → Clean m ws → IsOpening m (graph_of m ws)
+unfolding graph_of
 clean-opening m ws meta c =
-    let g = meant m ws in
+    let g = graph_of m ws in
     let same : HasObjects m ws g = refl in
     let there : StandAt 0 ws ws = λ k v e. ap (slice_get ws) (zero-add k) ∙ e in
     record {
@@ -387,7 +357,7 @@ clean-opening m ws meta c =
         objects_rise = subst (λ (ns : List ℕ). Rise 0 ns (length ws)) (sym (numbers-objects m 0 ws)) (range-rises 0 (length ws) (length ws) (omega arith));
         edges_rise = subst (λ (ns : List ℕ). Rise 0 ns (length (all_links m ws))) (sym (numbers-edges 0 (all_links m ws))) (range-rises 0 (length (all_links m ws)) (length (all_links m ws)) (omega arith));
         names_differ = subst (λ (ts : List (List ℕ)). Differ ts) (sym (names-objects m 0 ws)) (clean-differ m ws c);
-        names_below = names-below m 0 (next_name ws) ws (le_refl (next_name ws));
+        names_below = names-below m 0 (next_name_after (object_names ws)) ws (le_refl (next_name_after (object_names ws)));
         objects_fit = objects-fit m ws 0 ws meta c there;
         edges_fit = edges-all (λ s f t. CanJoin m g s f t) 0 (all_links m ws) (joins-links m ws g 0 ws meta c same there);
       };
@@ -399,15 +369,15 @@ clean-opening m ws meta c =
       next_name = λ k e. next-there m 0 k ws e;
     }
 
-pub opening : (m : Metamodel) (ws : List RawObject) → IsMeta m → faults m ws ≡ [] → IsOpening m (meant m ws)
+pub opening : (m : Metamodel) (ws : List RawObject) → IsMeta m → graph_faults m ws ≡ [] → IsOpening m (graph_of m ws)
 opening m ws meta e = clean-opening m ws meta (clean m ws e)
 
-pub few-objects : (m : Metamodel) (ws : List RawObject) → faults m ws ≡ [] → length (meant m ws).objects ≤ 200000
-unfolding meant
+pub few-objects : (m : Metamodel) (ws : List RawObject) → graph_faults m ws ≡ [] → length (graph_of m ws).objects ≤ 200000
+unfolding graph_of
 few-objects m ws e = let few = (clean m ws e).few in omega (arith, few, length-objects m 0 ws)
 
-pub few-edges : (m : Metamodel) (ws : List RawObject) → faults m ws ≡ [] → length (meant m ws).edges ≤ 400000
-unfolding meant
+pub few-edges : (m : Metamodel) (ws : List RawObject) → graph_faults m ws ≡ [] → length (graph_of m ws).edges ≤ 400000
+unfolding graph_of
 few-edges m ws e = let few = (clean m ws e).joined in omega (arith, few, length-edges 0 (all_links m ws))
 
 -- A number that isn't far is at most 3,000,000,000, and the next one hardly more.
@@ -419,10 +389,10 @@ near-number true (Some k) e = grind (arith, nat_tests)
 near-name : (name : List ℕ) → is_object_name name ≡ true → next_after name ≤ 3000000001
 near-name name e = near-number (nat_le 1 (length name) && nat_le (length name) 128) (hash_number name) e
 
-near-names : (ws : List RawObject) → ((k : ℕ) (w : RawObject) → slice_get ws k ≡ Some w → is_object_name w.name ≡ true) → next_name ws ≤ 3000000001
+near-names : (ws : List RawObject) → ((k : ℕ) (w : RawObject) → slice_get ws k ≡ Some w → is_object_name w.name ≡ true) → next_name_after (object_names ws) ≤ 3000000001
 near-names [] named = omega arith
 near-names (w ∷ ws) named = let first = near-name w.name (named 0 w refl) in let rest = near-names ws (λ k v e. named (suc k) v e) in omega (arith, clamps, first, rest)
 
-pub low-names : (m : Metamodel) (ws : List RawObject) → faults m ws ≡ [] → (meant m ws).next_name ≤ 3000000001
-unfolding meant
+pub low-names : (m : Metamodel) (ws : List RawObject) → graph_faults m ws ≡ [] → (graph_of m ws).next_name ≤ 3000000001
+unfolding graph_of
 low-names m ws e = near-names ws (clean m ws e).named

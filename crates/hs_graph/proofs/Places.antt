@@ -1,5 +1,5 @@
 -- Places of names.
-use Rattle.std.proofs.Common.{◌≡◌, ◌+◌, ◌<◌, ◌≤◌, ◌||◌, ◌++◌, ℕ, suc, List, [], ◌∷◌, Bool, true, false, cond, not, eqb, ltb, length, take, get_or, is_some, Some, None, refl, ap, sym, ◌∙◌, arith, length-append, length-take-le}
+use Rattle.std.proofs.Common.{◌≡◌, ◌+◌, ◌<◌, ◌≤◌, ◌++◌, ℕ, List, [], ◌∷◌, Bool, true, false, cond, not, eqb, ltb, length, take, get_or, is_some, Some, None, refl, ap, sym, ◌∙◌, arith, length-append, length-take-le}
 use Rattle.std.proofs.lemmas.Bool.{false≢true}
 use Rattle.std.proofs.lemmas.Bool.Decides.{nat_tests}
 use Rattle.std.proofs.lemmas.List.{take_more}
@@ -8,7 +8,8 @@ use Rattle.std.proofs.lemmas.List.Sums.{prefix_len-le-length}
 use Rattle.std.proofs.lemmas.Slice.Eq.{bytes_eq-Decides}
 use Rattle.std.specs.Cmp.Lexicographic.{nat_list_eq_equiv}
 use Rattle.std.specs.List.{list_any, position, position_or_len}
-use Rattle.hs_types.specs.Lists.{same_text}
+use Rattle.hs_expr.specs.Lists.{same_text}
+use Rattle.hs_expr.proofs.Items.{below_any, is_some-position}
 use Rattle.hs_graph.specs.Lookups.{place_of}
 
 number_push : (n len : ℕ) (b : Bool) → n ≤ len →
@@ -21,22 +22,6 @@ pub position_push : {A : Type 0} (p : A → Bool) (xs : List A) (y : A) →
     position p (xs ++ y ∷ []) ≡ cond (ltb (position_or_len p xs) (length xs)) (Some (position_or_len p xs)) (cond (p y) (Some (length xs)) None)
 position_push p xs y =
     rw position_or_len_push (rw length-append (number_push (position_or_len p xs) (length xs) (p y) (prefix_len-le-length (λ x. not (p x)) xs)))
-
-is_some-cond : {A : Type 0} (b : Bool) (x : A) → is_some (cond b (Some x) None) ≡ b
-is_some-cond true x = refl
-is_some-cond false x = refl
-
--- There is a place exactly where one of the items passes.
-first_below : (b : Bool) (n len : ℕ) (any : Bool) → ltb n len ≡ any → ltb (cond (not b) (1 + n) 0) (suc len) ≡ (b || any)
-first_below true n len any e = grind (arith, nat_tests)
-first_below false n len any e = sym (sym e ∙ grind (arith, nat_tests))
-
-pub below_any : {A : Type 0} (p : A → Bool) (xs : List A) → ltb (position_or_len p xs) (length xs) ≡ list_any p xs
-below_any p [] = refl
-below_any p (x ∷ xs) = first_below (p x) (position_or_len p xs) (length xs) (list_any p xs) (below_any p xs)
-
-pub is_some-position : {A : Type 0} (p : A → Bool) (xs : List A) → is_some (position p xs) ≡ list_any p xs
-is_some-position p xs = is_some-cond (ltb (position_or_len p xs) (length xs)) (position_or_len p xs) ∙ below_any p xs
 
 later_or_new : (b c : Bool) (n len : ℕ) → (c ≡ true → b ≡ false) → cond b (Some n) (cond c (Some len) None) ≡ cond c (Some len) (cond b (Some n) None)
 later_or_new true true n len h = absurd (false≢true (sym (h refl)))

@@ -1,10 +1,10 @@
 -- Slots of what is written fit their attributes.
-use Rattle.std.proofs.Common.{ℕ, zero, suc, ◌≡◌, ◌&&◌, ◌||◌, List, [], ◌∷◌, Bool, true, false, cond, eqb, map, not, Option, Some, None, is_some, slice_get, refl, ap, sym, ◌∙◌, subst}
+use Rattle.std.proofs.Common.{ℕ, suc, ◌≡◌, ◌&&◌, ◌||◌, List, [], ◌∷◌, Bool, true, false, cond, eqb, map, not, Option, Some, None, is_some, slice_get, refl, ap, sym, ◌∙◌, subst}
 use Rattle.std.specs.List.{All, filter, filter_map, find}
 use Rattle.std.specs.Option.{option_and_then, option_map, option_map_or, unwrap_or}
-use Rattle.std.proofs.lemmas.Bool.{and_parts, eqb-true, eq-eqb, false≢true}
-use Rattle.std.proofs.lemmas.List.Elements.{All-nil, All-cons, All-head, All-tail}
-use Rattle.std.proofs.lemmas.Option.{none-some, same_Some, get_or_from_slice_get, slice_get_within}
+use Rattle.std.proofs.lemmas.Bool.{and_parts, eq-eqb, false≢true}
+use Rattle.std.proofs.lemmas.List.Elements.{All-nil, All-cons}
+use Rattle.std.proofs.lemmas.Option.{none-some, same_Some}
 use Rattle.std.proofs.lemmas.Slice.Eq.{bytes_eq-Decides}
 use Rattle.hs_expr.specs.declared.value.Value.{Value}
 use Rattle.hs_types.specs.declared.graph.Slot.{Slot}
@@ -13,21 +13,20 @@ use Rattle.hs_types.specs.declared.meta.Feature.{Feature}
 use Rattle.hs_types.specs.declared.meta.FeatureKind.{FeatureKind}
 use Rattle.hs_types.specs.declared.meta.FeatureKind.TheVariants.{Attribute, Reference}
 use Rattle.hs_types.specs.declared.meta.Metamodel.{Metamodel}
-use Rattle.hs_types.specs.Lists.{Differ, has, same_text}
+use Rattle.hs_expr.specs.Lists.{Differ, has, same_text}
+use Rattle.hs_expr.proofs.Keys.{same_number}
 use Rattle.hs_types.specs.Metamodel.{FeatureFits, IsMeta, attributes_of, class_at, default_of, default_of_kind, feature_at, features_of, fits, is_attribute, is_of_type, type_of, type_of_kind}
 use Rattle.hs_graph.specs.declared.raw.RawAttr.{RawAttr}
 use Rattle.hs_graph.specs.declared.raw.RawValue.{RawValue}
 use Rattle.hs_graph.specs.declared.raw.RawValue.TheVariants.{Given, NoValue}
 use Rattle.hs_graph.specs.Faults.{attr_faults_at, is_short, takes, value_faults}
 use Rattle.hs_graph.specs.Lookups.{attribute_named, is_attribute_named}
-use Rattle.hs_graph.specs.Meaning.{slot_of, slots_of, value_given, value_in}
-use Rattle.hs_graph.proofs.Clean.{no_test, not_false, some-not_none}
+use Rattle.hs_graph.specs.Meaning.{slot_for, slots_for, written_value, value_of_raw}
+use Rattle.hs_graph.proofs.Clean.{not_false}
+use Rattle.hs_expr.proofs.Clean.{some-not_none, no_test}
+use Rattle.hs_expr.proofs.Items.{All-at, has_at}
 
 -- ---- items of lists
-
--- An item of a list has what all items have.
-pub All-at : {A : Type 0} (P : A → Type 0) (xs : List A) (i : ℕ) (x : A) → All P xs → slice_get xs i ≡ Some x → P x
-All-at P xs i x a e = subst P (get_or_from_slice_get xs i x x e) (a i x (slice_get_within xs i x e))
 
 -- What is found passes, and stands somewhere.
 pub record Found {A : Type 0} (p : A → Bool) (xs : List A) (x : A) : Type 0 where
@@ -42,37 +41,6 @@ found {A} p (y ∷ ys) x e = go (found p ys x) (p y) refl e
     go : (find p ys ≡ Some x → Found p ys x) → (b : Bool) → p y ≡ b → cond b (Some y) (find p ys) ≡ Some x → Found p (y ∷ ys) x
     go later true t f = let same = same_Some y x f in record { passes = ap p (sym same) ∙ t; place = 0; at = ap Some same }
     go later false t f = let rest = later f in record { passes = rest.passes; place = suc rest.place; at = rest.at }
-
-pub has-at : (ns : List ℕ) (i n : ℕ) → slice_get ns i ≡ Some n → has ns n ≡ true
-has-at [] i n e = absurd (none-some n e)
-has-at (m ∷ ns) zero n e = left (eqb n m) (has ns n) (eq-eqb n m (sym (same_Some m n e)))
-  where
-    left : (a b : Bool) → a ≡ true → (a || b) ≡ true
-    left a b t = rw t refl
-has-at (m ∷ ns) (suc i) n e = right (eqb n m) (has ns n) (has-at ns i n e)
-  where
-    right : (a b : Bool) → b ≡ true → (a || b) ≡ true
-    right true b t = refl
-    right false b t = t
-
-all_has : {A : Type 0} (P : A → Type 0) (g : ℕ → A) (ns : List ℕ) (n : ℕ) → All P (map g ns) → has ns n ≡ true → P (g n)
-all_has P g [] n a h = absurd (false≢true h)
-all_has P g (m ∷ ns) n a h = go (all_has P g ns n (All-tail P (g m) (map g ns) a)) (eqb n m) refl h
-  where
-    go : (has ns n ≡ true → P (g n)) → (b : Bool) → eqb n m ≡ b → (b || has ns n) ≡ true → P (g n)
-    go later true t f = subst (λ k. P (g k)) (sym (eqb-true n m t)) (All-head P (g m) (map g ns) a)
-    go later false t f = later f
-
--- Of numbers that give different things two that give the same are the same.
-pub same_number : {A : Type 0} (g : ℕ → A) (ns : List ℕ) (m n : ℕ) → Differ (map g ns) → has ns m ≡ true → has ns n ≡ true → g m ≡ g n → m ≡ n
-same_number g [] m n d h k e = absurd (false≢true h)
-same_number {A} g (x ∷ ns) m n d h k e = go (λ f l. same_number g ns m n d.1 f l e) (eqb m x) (eqb n x) refl refl h k
-  where
-    go : (has ns m ≡ true → has ns n ≡ true → m ≡ n) → (a b : Bool) → eqb m x ≡ a → eqb n x ≡ b → (a || has ns m) ≡ true → (b || has ns n) ≡ true → m ≡ n
-    go later true true s t f l = eqb-true m x s ∙ sym (eqb-true n x t)
-    go later true false s t f l = absurd (all_has (λ (y : A). g x ≡ y → ⊥) g ns n d.0 l (ap g (sym (eqb-true m x s)) ∙ e))
-    go later false true s t f l = absurd (all_has (λ (y : A). g x ≡ y → ⊥) g ns m d.0 f (ap g (sym (eqb-true n x t)) ∙ sym e))
-    go later false false s t f l = later f l
 
 -- ---- features by name
 
@@ -114,7 +82,7 @@ taken m class i attrs f attr is h clean e = go (attribute_named m class attr.nam
     go (Some g) at =
         let here = found (λ attr. is_attribute_named m attr.name f) attrs attr e in
         let there = found (is_attribute_named m attr.name) (features_of m class) g at in
-        let same : g ≡ f = same_feature m class is_attribute attr.name g f is (has-at (features_of m class) there.place g there.at) h there.passes here.passes in
+        let same : g ≡ f = same_feature m class is_attribute attr.name g f is (has_at (features_of m class) there.place g there.at) h there.passes here.passes in
         let fine : takes m g attr.value ≡ true = not_false _ (no_test (not (takes m g attr.value)) _ (sym (ap (value_faults m i here.place attr.value) at) ∙ clean here.place attr here.at)) in
         subst (λ k. takes m k attr.value ≡ true) same fine
 
@@ -133,16 +101,16 @@ default-fits m f v is e = go (feature_at m f) refl
 
 -- The value of a slot, written or default.
 value-fits : (m : Metamodel) (class i : ℕ) (attrs : List RawAttr) (f : ℕ) (default : Value) → IsMeta m → has (features_of m class) f ≡ true →
-    ((a : ℕ) (attr : RawAttr) → slice_get attrs a ≡ Some attr → attr_faults_at m class i a attr ≡ []) → default_of m f ≡ Some default → fits m f (unwrap_or (value_given m attrs f) default) ≡ true
+    ((a : ℕ) (attr : RawAttr) → slice_get attrs a ≡ Some attr → attr_faults_at m class i a attr ≡ []) → default_of m f ≡ Some default → fits m f (unwrap_or (written_value m attrs f) default) ≡ true
 value-fits m class i attrs f default is h clean d = go (find (λ attr. is_attribute_named m attr.name f) attrs) refl
   where
-    given : (written : RawValue) → takes m f written ≡ true → fits m f (unwrap_or (value_in written) default) ≡ true
+    given : (written : RawValue) → takes m f written ≡ true → fits m f (unwrap_or (value_of_raw written) default) ≡ true
     given (Given v) t = (and_parts (fits m f v) (is_short v) t).0
     given NoValue t = absurd (false≢true t)
 
-    go : (o : Option RawAttr) → find (λ attr. is_attribute_named m attr.name f) attrs ≡ o → fits m f (unwrap_or (option_and_then (λ (attr : RawAttr). value_in attr.value) (find (λ attr. is_attribute_named m attr.name f) attrs)) default) ≡ true
-    go None at = subst (λ (o : Option RawAttr). fits m f (unwrap_or (option_and_then (λ (attr : RawAttr). value_in attr.value) o) default) ≡ true) (sym at) (default-fits m f default is d)
-    go (Some attr) at = subst (λ (o : Option RawAttr). fits m f (unwrap_or (option_and_then (λ (attr : RawAttr). value_in attr.value) o) default) ≡ true) (sym at) (given attr.value (taken m class i attrs f attr is h clean at))
+    go : (o : Option RawAttr) → find (λ attr. is_attribute_named m attr.name f) attrs ≡ o → fits m f (unwrap_or (option_and_then (λ (attr : RawAttr). value_of_raw attr.value) (find (λ attr. is_attribute_named m attr.name f) attrs)) default) ≡ true
+    go None at = subst (λ (o : Option RawAttr). fits m f (unwrap_or (option_and_then (λ (attr : RawAttr). value_of_raw attr.value) o) default) ≡ true) (sym at) (default-fits m f default is d)
+    go (Some attr) at = subst (λ (o : Option RawAttr). fits m f (unwrap_or (option_and_then (λ (attr : RawAttr). value_of_raw attr.value) o) default) ≡ true) (sym at) (given attr.value (taken m class i attrs f attr is h clean at))
 
 -- ---- slots
 
@@ -158,18 +126,18 @@ kinds m f = go (feature_at m f)
     go None = refl
     go (Some feature) = of_kind feature.kind
 
-slots-attributes : (m : Metamodel) (attrs : List RawAttr) (fs : List ℕ) → map (λ (slot : Slot). slot.attribute) (filter_map (slot_of m attrs) fs) ≡ filter (λ f. is_some (type_of m f)) fs
+slots-attributes : (m : Metamodel) (attrs : List RawAttr) (fs : List ℕ) → map (λ (slot : Slot). slot.attribute) (filter_map (slot_for m attrs) fs) ≡ filter (λ f. is_some (type_of m f)) fs
 slots-attributes m attrs [] = refl
 slots-attributes m attrs (f ∷ fs) =
     go (slots-attributes m attrs fs) (default_of m f) refl
   where
-    go : map (λ (slot : Slot). slot.attribute) (filter_map (slot_of m attrs) fs) ≡ filter (λ f. is_some (type_of m f)) fs → (o : Option Value) → default_of m f ≡ o → map (λ (slot : Slot). slot.attribute) (filter_map (slot_of m attrs) (f ∷ fs)) ≡ filter (λ f. is_some (type_of m f)) (f ∷ fs)
+    go : map (λ (slot : Slot). slot.attribute) (filter_map (slot_for m attrs) fs) ≡ filter (λ f. is_some (type_of m f)) fs → (o : Option Value) → default_of m f ≡ o → map (λ (slot : Slot). slot.attribute) (filter_map (slot_for m attrs) (f ∷ fs)) ≡ filter (λ f. is_some (type_of m f)) (f ∷ fs)
     go rest None e = rw (kinds m f, e) rest
     go rest (Some v) e = rw (kinds m f, e) (ap (λ ns. f ∷ ns) rest)
 
 -- Each slot fits its attribute.
 slots-fit : (m : Metamodel) (class i : ℕ) (attrs : List RawAttr) (fs : List ℕ) → IsMeta m → ((f : ℕ) → has fs f ≡ true → has (features_of m class) f ≡ true) →
-    ((a : ℕ) (attr : RawAttr) → slice_get attrs a ≡ Some attr → attr_faults_at m class i a attr ≡ []) → All (λ (slot : Slot). fits m slot.attribute slot.value ≡ true) (filter_map (slot_of m attrs) fs)
+    ((a : ℕ) (attr : RawAttr) → slice_get attrs a ≡ Some attr → attr_faults_at m class i a attr ≡ []) → All (λ (slot : Slot). fits m slot.attribute slot.value ≡ true) (filter_map (slot_for m attrs) fs)
 slots-fit m class i attrs [] is h clean = All-nil (λ slot. fits m slot.attribute slot.value ≡ true)
 slots-fit m class i attrs (f ∷ fs) is h clean =
     go (slots-fit m class i attrs fs is (λ k t. h k (later k t)) clean) (default_of m f) refl
@@ -184,12 +152,12 @@ slots-fit m class i attrs (f ∷ fs) is h clean =
         or_true true b t = refl
         or_true false b t = t
 
-    go : All (λ (slot : Slot). fits m slot.attribute slot.value ≡ true) (filter_map (slot_of m attrs) fs) → (o : Option Value) → default_of m f ≡ o → All (λ (slot : Slot). fits m slot.attribute slot.value ≡ true) (filter_map (slot_of m attrs) (f ∷ fs))
+    go : All (λ (slot : Slot). fits m slot.attribute slot.value ≡ true) (filter_map (slot_for m attrs) fs) → (o : Option Value) → default_of m f ≡ o → All (λ (slot : Slot). fits m slot.attribute slot.value ≡ true) (filter_map (slot_for m attrs) (f ∷ fs))
     go rest None e = rw e rest
-    go rest (Some v) e = rw e (All-cons (λ (slot : Slot). fits m slot.attribute slot.value ≡ true) (record { attribute = f; value = unwrap_or (value_given m attrs f) v }) (filter_map (slot_of m attrs) fs) (value-fits m class i attrs f v is (h f here) clean e) rest)
+    go rest (Some v) e = rw e (All-cons (λ (slot : Slot). fits m slot.attribute slot.value ≡ true) (record { attribute = f; value = unwrap_or (written_value m attrs f) v }) (filter_map (slot_for m attrs) fs) (value-fits m class i attrs f v is (h f here) clean e) rest)
 
-pub slots-whole : (m : Metamodel) (class : ℕ) (attrs : List RawAttr) → map (λ (slot : Slot). slot.attribute) (slots_of m class attrs) ≡ attributes_of m class
+pub slots-whole : (m : Metamodel) (class : ℕ) (attrs : List RawAttr) → map (λ (slot : Slot). slot.attribute) (slots_for m class attrs) ≡ attributes_of m class
 slots-whole m class attrs = slots-attributes m attrs (features_of m class)
 
-pub slots-sound : (m : Metamodel) (class i : ℕ) (attrs : List RawAttr) → IsMeta m → ((a : ℕ) (attr : RawAttr) → slice_get attrs a ≡ Some attr → attr_faults_at m class i a attr ≡ []) → All (λ (slot : Slot). fits m slot.attribute slot.value ≡ true) (slots_of m class attrs)
+pub slots-sound : (m : Metamodel) (class i : ℕ) (attrs : List RawAttr) → IsMeta m → ((a : ℕ) (attr : RawAttr) → slice_get attrs a ≡ Some attr → attr_faults_at m class i a attr ≡ []) → All (λ (slot : Slot). fits m slot.attribute slot.value ≡ true) (slots_for m class attrs)
 slots-sound m class i attrs is clean = slots-fit m class i attrs (features_of m class) is (λ f t. t) clean

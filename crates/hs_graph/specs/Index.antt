@@ -10,13 +10,13 @@ use Rattle.hs_graph.specs.declared.index.EdgeIndex.{EdgeIndex}
 use Rattle.hs_graph.specs.declared.index.ObjectIndex.{ObjectIndex}
 
 -- The object of this number, among those that are found by place or else by number.
-abbrev pub object_in : ObjectIndex → ℕ → Option (Bor Object)
-object_in objects n = unwrap_or (slice_get objects.near.items n) (get nat_cmp objects.far n)
+abbrev pub indexed_object : ObjectIndex → ℕ → Option (Bor Object)
+indexed_object objects n = unwrap_or (slice_get objects.near.items n) (get nat_cmp objects.far n)
 
 -- The names of objects that are found so.
-abbrev pub names_by : ObjectIndex → ℕ → List ℕ
-names_by objects n = unwrap_or (option_map (λ o. o.now.name) (object_in objects n)) []
+abbrev pub indexed_name : ObjectIndex → ℕ → List ℕ
+indexed_name objects n = unwrap_or (option_map (λ o. o.now.name) (indexed_object objects n)) []
 
 -- The edges of the object of this number, found so too.
-abbrev pub edges_in : EdgeIndex → ℕ → List Edge
-edges_in edges n = unwrap_or (option_map (λ v. v.items) (slice_get edges.near.items n)) (unwrap_or (option_map (λ v. v.items) (get nat_cmp edges.far n)) [])
+abbrev pub indexed_edges : EdgeIndex → ℕ → List Edge
+indexed_edges edges n = unwrap_or (option_map (λ v. v.items) (slice_get edges.near.items n)) (unwrap_or (option_map (λ v. v.items) (get nat_cmp edges.far n)) [])

@@ -3,7 +3,7 @@ pub mod Lookups
 pub mod Links
 pub mod Faults
 pub mod Meaning
-pub mod Answers
+pub mod Words
 pub mod Samples
 pub mod Problems
 pub mod Index

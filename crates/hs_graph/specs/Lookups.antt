@@ -4,8 +4,9 @@ use Rattle.std.specs.List.{find, position}
 use Rattle.std.specs.Option.{option_map_or, unwrap_or}
 use Rattle.hs_types.specs.declared.meta.Feature.{Feature}
 use Rattle.hs_types.specs.declared.meta.Metamodel.{Metamodel}
-use Rattle.hs_types.specs.Lists.{same_text}
+use Rattle.hs_expr.specs.Lists.{same_text}
 use Rattle.hs_types.specs.Metamodel.{feature_at, features_of, is_attribute, target_of_kind}
+use Rattle.hs_types.specs.Names.{class_named}
 use Rattle.hs_graph.specs.declared.raw.RawObject.{RawObject}
 
 abbrev pub object_names : List RawObject → List (List ℕ)
@@ -15,16 +16,12 @@ object_names objects = map (λ object. object.name) objects
 abbrev pub place_of : List (List ℕ) → List ℕ → Option ℕ
 place_of names name = position (same_text name) names
 
--- The number of the class of this name.
-abbrev pub class_named : Metamodel → List ℕ → Option ℕ
-class_named m name = position (λ class. same_text name class.name) m.classes
-
 -- The number of the object's class; 0 where there is no such class.
-abbrev pub class_of : Metamodel → RawObject → ℕ
-class_of m object = unwrap_or (class_named m object.class) 0
+abbrev pub class_of_object : Metamodel → RawObject → ℕ
+class_of_object m object = unwrap_or (class_named m object.class) 0
 
-abbrev pub classes_of : Metamodel → List RawObject → List ℕ
-classes_of m objects = map (class_of m) objects
+abbrev pub classes_of_objects : Metamodel → List RawObject → List ℕ
+classes_of_objects m objects = map (class_of_object m) objects
 
 abbrev pub is_reference : Feature → Bool
 is_reference feature = is_some (target_of_kind feature.kind)

@@ -15,43 +15,43 @@ use Rattle.hs_graph.specs.declared.raw.RawObject.{RawObject}
 use Rattle.hs_graph.specs.declared.raw.RawValue.{RawValue}
 use Rattle.hs_graph.specs.declared.raw.RawValue.TheVariants.{Given, NoValue}
 use Rattle.hs_graph.specs.Links.{all_links}
-use Rattle.hs_graph.specs.Lookups.{class_of, is_attribute_named}
+use Rattle.hs_graph.specs.Lookups.{class_of_object, is_attribute_named, object_names}
 use Rattle.hs_graph.specs.Names.{next_after}
 
-abbrev pub value_in : RawValue → Option Value
-value_in (Given v) = Some v
-value_in NoValue = None
+abbrev pub value_of_raw : RawValue → Option Value
+value_of_raw (Given v) = Some v
+value_of_raw NoValue = None
 
 -- The value that is written for attribute f.
-abbrev pub value_given : Metamodel → List RawAttr → ℕ → Option Value
-value_given m attrs f = option_and_then (λ attr. value_in attr.value) (find (λ attr. is_attribute_named m attr.name f) attrs)
+abbrev pub written_value : Metamodel → List RawAttr → ℕ → Option Value
+written_value m attrs f = option_and_then (λ attr. value_of_raw attr.value) (find (λ attr. is_attribute_named m attr.name f) attrs)
 
 -- The slot for feature f, if it is an attribute: with the value that is written, or else the default.
-abbrev pub slot_of : Metamodel → List RawAttr → ℕ → Option Slot
-slot_of m attrs f = option_map (λ default. record { attribute = f; value = unwrap_or (value_given m attrs f) default }) (default_of m f)
+abbrev pub slot_for : Metamodel → List RawAttr → ℕ → Option Slot
+slot_for m attrs f = option_map (λ default. record { attribute = f; value = unwrap_or (written_value m attrs f) default }) (default_of m f)
 
 -- A slot for each attribute of the class, in the class's order.
-abbrev pub slots_of : Metamodel → ℕ → List RawAttr → List Slot
-slots_of m class attrs = filter_map (slot_of m attrs) (features_of m class)
+abbrev pub slots_for : Metamodel → ℕ → List RawAttr → List Slot
+slots_for m class attrs = filter_map (slot_for m attrs) (features_of m class)
 
-abbrev pub object_of : Metamodel → ℕ → RawObject → Object
-object_of m n object = record { number = n; name = object.name; class = class_of m object; slots = slots_of m (class_of m object) object.attrs }
+abbrev pub object_of_raw : Metamodel → ℕ → RawObject → Object
+object_of_raw m n object = record { number = n; name = object.name; class = class_of_object m object; slots = slots_for m (class_of_object m object) object.attrs }
 
 -- The objects, numbered from n on.
 abbrev pub objects_from : Metamodel → ℕ → List RawObject → List Object
 objects_from m n [] = []
-objects_from m n (object ∷ objects) = object_of m n object ∷ objects_from m (n + 1) objects
+objects_from m n (object ∷ objects) = object_of_raw m n object ∷ objects_from m (n + 1) objects
 
 -- The edges, numbered from n on.
-abbrev pub edges_from : ℕ → List Link → List Edge
-edges_from n [] = []
-edges_from n (link ∷ links) = record { number = n; source = link.source; reference = link.reference; target = link.target } ∷ edges_from (n + 1) links
+abbrev pub edges_of_links : ℕ → List Link → List Edge
+edges_of_links n [] = []
+edges_of_links n (link ∷ links) = record { number = n; source = link.source; reference = link.reference; target = link.target } ∷ edges_of_links (n + 1) links
 
--- One above the greatest k of all names `#k`, or 0 where there is none.
-abbrev pub next_name : List RawObject → ℕ
-next_name [] = 0
-next_name (object ∷ objects) = max (next_after object.name) (next_name objects)
+-- One above the greatest k of all names `#k` among these, or 0 where there is none.
+abbrev pub next_name_after : List (List ℕ) → ℕ
+next_name_after [] = 0
+next_name_after (name ∷ names) = max (next_after name) (next_name_after names)
 
 -- Objects and edges are numbered by their places.
-unfoldable pub meant : Metamodel → List RawObject → Graph
-meant m objects = record { objects = objects_from m 0 objects; edges = edges_from 0 (all_links m objects); next_object = length objects; next_edge = length (all_links m objects); next_name = next_name objects }
+unfoldable pub graph_of : Metamodel → List RawObject → Graph
+graph_of m objects = record { objects = objects_from m 0 objects; edges = edges_of_links 0 (all_links m objects); next_object = length objects; next_edge = length (all_links m objects); next_name = next_name_after (object_names objects) }

@@ -9,9 +9,9 @@ use Rattle.hs_types.specs.declared.graph.Object.{Object}
 use Rattle.hs_types.specs.declared.meta.FeatureKind.{FeatureKind}
 use Rattle.hs_types.specs.declared.meta.FeatureKind.TheVariants.{Attribute, Reference}
 use Rattle.hs_types.specs.declared.meta.Metamodel.{Metamodel}
-use Rattle.hs_types.specs.Lists.{has}
+use Rattle.hs_expr.specs.Lists.{has}
 use Rattle.hs_types.specs.Metamodel.{feature_at, features_of}
-use Rattle.hs_types.specs.Supertypes.{is_below}
+use Rattle.hs_types.specs.Reachability.{reaches}
 use Rattle.hs_graph.specs.declared.problem.Problem.{Problem}
 use Rattle.hs_graph.specs.declared.problem.ProblemKind.{ProblemKind}
 use Rattle.hs_graph.specs.declared.problem.ProblemKind.TheVariants as kind
@@ -20,11 +20,11 @@ abbrev pub problem : ℕ → ProblemKind → Problem
 problem n kind = record { object = n; kind = kind }
 
 -- The edges that leave object n, and those that lead to it.
-abbrev pub edges_from : Graph → ℕ → List Edge
-edges_from g n = filter (λ edge. eqb edge.source n) g.edges
+abbrev pub edges_leaving : Graph → ℕ → List Edge
+edges_leaving g n = filter (λ edge. eqb edge.source n) g.edges
 
-abbrev pub edges_to : Graph → ℕ → List Edge
-edges_to g n = filter (λ edge. eqb edge.target n) g.edges
+abbrev pub edges_entering : Graph → ℕ → List Edge
+edges_entering g n = filter (λ edge. eqb edge.target n) g.edges
 
 -- How many of these edges are of reference f.
 abbrev pub targets_count : List Edge → ℕ → ℕ
@@ -34,7 +34,7 @@ abbrev pub is_above : ℕ → Option ℕ → Bool
 is_above count None = false
 is_above count (Some most) = nat_lt most count
 
--- What is wrong with so many targets of object n at a feature of this kind.
+-- What is wrong with `count` targets of object n at a feature of this kind.
 abbrev pub count_problems : ℕ → ℕ → ℕ → FeatureKind → List Problem
 count_problems n f count (Attribute data_type default) = []
 count_problems n f count (Reference target containment lower upper) =
@@ -57,16 +57,16 @@ abbrev pub containers_count : Metamodel → List Edge → ℕ
 containers_count m incoming = length (filter (λ edge. is_containment m edge.reference) incoming)
 
 -- The objects that object n contains.
-abbrev pub contents_of : Metamodel → Graph → ℕ → List ℕ
-contents_of m g n = map (λ edge. edge.target) (filter (λ edge. is_containment m edge.reference) (edges_from g n))
+abbrev pub contained_objects : Metamodel → Graph → ℕ → List ℕ
+contained_objects m g n = map (λ edge. edge.target) (filter (λ edge. is_containment m edge.reference) (edges_leaving g n))
 
 -- Of each number that an object can have the objects that it contains.
-abbrev pub contents : Metamodel → Graph → List (List ℕ)
-contents m g = map (contents_of m g) (range_with_len 0 g.next_object)
+abbrev pub containment_lists : Metamodel → Graph → List (List ℕ)
+containment_lists m g = map (contained_objects m g) (range_with_len 0 g.next_object)
 
 -- Object n contains itself, by one step or more.
 abbrev pub is_in_itself : Metamodel → Graph → ℕ → Bool
-is_in_itself m g n = is_below (contents m g) n n
+is_in_itself m g n = reaches (containment_lists m g) n n
 
 -- What is wrong with an object that has these edges: reference by reference in the order of its class, then its containers, then that it contains itself.
 abbrev pub problems_by : Metamodel → List Edge → List Edge → Bool → Object → List Problem
@@ -76,7 +76,7 @@ problems_by m outgoing incoming in_itself object =
     ++ fault_if in_itself (problem object.number kind.Cycle))
 
 abbrev pub problems_at : Metamodel → Graph → Object → List Problem
-problems_at m g object = problems_by m (edges_from g object.number) (edges_to g object.number) (is_in_itself m g object.number) object
+problems_at m g object = problems_by m (edges_leaving g object.number) (edges_entering g object.number) (is_in_itself m g object.number) object
 
 -- The problems of all objects, object by object.
 abbrev pub problems_of : Metamodel → Graph → List Problem
@@ -84,7 +84,7 @@ problems_of m g = flat_map (problems_at m g) g.objects
 
 -- Object n contains object k.
 abbrev pub Contains : Metamodel → Graph → ℕ → ℕ → Type 0
-Contains m g n k = has (contents_of m g n) k ≡ true
+Contains m g n k = has (contained_objects m g n) k ≡ true
 
 -- Object k is inside object n: it is contained by n, or by an object inside n.
 pub data IsInside (m : Metamodel) (g : Graph) : ℕ → ℕ → Type 0 where

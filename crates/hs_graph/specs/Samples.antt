@@ -14,17 +14,17 @@ use Rattle.hs_graph.specs.declared.raw.RawRef.{RawRef}
 use Rattle.hs_graph.specs.declared.raw.RawValue.{RawValue}
 use Rattle.hs_graph.specs.declared.raw.RawValue.TheVariants.{Given, NoValue}
 
-abbrev pub sample_class : List ℕ → Bool → List ℕ → List ℕ → Class
-sample_class name is_abstract supers features = record { name = name; is_abstract = is_abstract; supers = supers; features = features }
+abbrev pub sample_graph_class : List ℕ → Bool → List ℕ → List ℕ → Class
+sample_graph_class name is_abstract supers features = record { name = name; is_abstract = is_abstract; supers = supers; features = features }
 
 -- Clients hold accounts, an account has an owner and a balance, which is 5 where none is given, and both have a name from an abstract class.
-abbrev pub bank : Metamodel
-bank = record {
+abbrev pub sample_bank : Metamodel
+sample_bank = record {
   format = 1;
   classes =
-      sample_class (codes "Named") true [] (0 ∷ []) ∷
-      sample_class (codes "Client") false (0 ∷ []) (0 ∷ 1 ∷ []) ∷
-      sample_class (codes "Account") false (0 ∷ []) (0 ∷ 2 ∷ 3 ∷ []) ∷ [];
+      sample_graph_class (codes "Named") true [] (0 ∷ []) ∷
+      sample_graph_class (codes "Client") false (0 ∷ []) (0 ∷ 1 ∷ []) ∷
+      sample_graph_class (codes "Account") false (0 ∷ []) (0 ∷ 2 ∷ 3 ∷ []) ∷ [];
   features =
       record { owner = 0; name = codes "name"; kind = Attribute EString (value.Text []) } ∷
       record { owner = 1; name = codes "accounts"; kind = Reference 2 true 0 None } ∷
@@ -42,14 +42,14 @@ abbrev pub sample_ref : List ℕ → List (List ℕ) → RawRef
 sample_ref name targets = record { name = name; targets = targets }
 
 -- A client that holds an account twice, and the account.
-abbrev pub right : List RawObject
-right =
+abbrev pub sample_objects : List RawObject
+sample_objects =
     sample_object (codes "c1") (codes "Client") (sample_attr (codes "name") (Given (value.Text (codes "Ann"))) ∷ []) (sample_ref (codes "accounts") (codes "#7" ∷ codes "#7" ∷ []) ∷ []) ∷
     sample_object (codes "#7") (codes "Account") [] (sample_ref (codes "owner") (codes "c1" ∷ []) ∷ []) ∷ []
 
 -- Objects with a fault of each kind, but for the limits.
-abbrev pub wrong : List RawObject
-wrong =
+abbrev pub faulty_objects : List RawObject
+faulty_objects =
     sample_object [] (codes "Client") [] [] ∷
     sample_object (codes "x") (codes "Bank") [] [] ∷
     sample_object (codes "x") (codes "Named") [] [] ∷
@@ -61,7 +61,7 @@ wrong =
 abbrev pub boxes : Metamodel
 boxes = record {
   format = 1;
-  classes = sample_class (codes "Box") false [] (0 ∷ 1 ∷ []) ∷ [];
+  classes = sample_graph_class (codes "Box") false [] (0 ∷ 1 ∷ []) ∷ [];
   features =
       record { owner = 0; name = codes "parts"; kind = Reference 0 true 0 None } ∷
       record { owner = 0; name = codes "tie"; kind = Reference 0 false 1 (Some 1) } ∷ [];

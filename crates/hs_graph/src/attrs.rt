@@ -23,7 +23,7 @@ pub fn attrs_right(
     classes: &[ClassNo],
     objects: &[RawObject],
 ) -> Result<(), GraphFault>
-    requires { classes.now ≡ lookups.classes_of meta.now objects.now }
+    requires { classes.now ≡ lookups.classes_of_objects meta.now objects.now }
     ensures { result ≡ verdict (spec.attr_faults meta.now objects.now) }
 {
     check_each(
@@ -39,8 +39,8 @@ fn attrs_right_at(
     object: &RawObject,
 ) -> Result<(), GraphFault>
     requires { i < length classes.now }
-    ensures { (objects : List RawObject) → classes.now ≡ lookups.classes_of meta.now objects → slice_get objects i ≡ Some object.now
-        → result ≡ verdict (each (spec.attr_faults_at meta.now (lookups.class_of meta.now object.now) i) object.now.attrs) }
+    ensures { (objects : List RawObject) → classes.now ≡ lookups.classes_of_objects meta.now objects → slice_get objects i ≡ Some object.now
+        → result ≡ verdict (each (spec.attr_faults_at meta.now (lookups.class_of_object meta.now object.now) i) object.now.attrs) }
 {
     attrs_right_in(meta, classes[i], i, object.attrs.as_slice())
 }
@@ -82,18 +82,18 @@ fn attr_right(
 }
 
 /// A slot for each attribute of the class, with the value that is written, or else the default.
-pub fn slots_of(
+pub fn slots_for(
     alloc: Global,
     meta: &Meta,
     class: ClassNo,
     attrs: &[RawAttr],
 ) -> Result<List<Slot>, AllocError>
-    ensures { IfOk result (λ slots. slots ≡ meaning.slots_of meta.now class attrs.now) }
+    ensures { IfOk result (λ slots. slots ≡ meaning.slots_for meta.now class attrs.now) }
 {
     let mut slots = List::new(alloc);
     for feature in meta.features_of(class) {
         match meta.default_of(*feature) {
-            Some(default) => slots.push(slot_of(meta, attrs, *feature, default)?)?,
+            Some(default) => slots.push(slot_for(meta, attrs, *feature, default)?)?,
             None => {}
         }
     }
@@ -101,27 +101,27 @@ pub fn slots_of(
 }
 
 /// The slot for the attribute, which has this default.
-fn slot_of(
+fn slot_for(
     meta: &Meta,
     attrs: &[RawAttr],
     attribute: FeatureNo,
     default: &Value,
 ) -> Result<Slot, AllocError>
-    ensures { IfOk result (λ slot. slot ≡ record { attribute = attribute; value = unwrap_or (meaning.value_given meta.now attrs.now attribute) default.now }) }
+    ensures { IfOk result (λ slot. slot ≡ record { attribute = attribute; value = unwrap_or (meaning.written_value meta.now attrs.now attribute) default.now }) }
 {
     Ok(Slot {
         attribute,
-        value: value_given(meta, attrs, attribute)
+        value: written_value(meta, attrs, attribute)
             .unwrap_or(default)
             .clone()?,
     })
 }
 
 /// The value that is written for the attribute.
-fn value_given<'a>(meta: &Meta, attrs: &'a [RawAttr], attribute: FeatureNo) -> Option<&'a Value>
-    ensures { option_copied result ≡ meaning.value_given meta.now attrs.now attribute }
+fn written_value<'a>(meta: &Meta, attrs: &'a [RawAttr], attribute: FeatureNo) -> Option<&'a Value>
+    ensures { option_copied result ≡ meaning.written_value meta.now attrs.now attribute }
 {
-    value_in(&attr_for(meta, attrs, attribute)?.value)
+    value_of_raw(&attr_for(meta, attrs, attribute)?.value)
 }
 
 /// What is written for the attribute.
@@ -133,8 +133,8 @@ fn attr_for<'a>(meta: &Meta, attrs: &'a [RawAttr], attribute: FeatureNo) -> Opti
         .find(|attr| is_attribute_named(meta, &attr.name, attribute))
 }
 
-fn value_in(written: &RawValue) -> Option<&Value>
-    ensures { option_copied result ≡ meaning.value_in written.now }
+fn value_of_raw(written: &RawValue) -> Option<&Value>
+    ensures { option_copied result ≡ meaning.value_of_raw written.now }
 {
     match written {
         RawValue::Given(value) => Some(value),

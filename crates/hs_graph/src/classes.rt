@@ -1,7 +1,8 @@
 //! The classes of objects.
 
 ghost use Rattle.std.specs.Prelude.{◌≡◌};
-ghost use Rattle.hs_graph.specs.Answers.{PassesWith, unless};
+ghost use Rattle.hs_expr.specs.Steps.{GivesWhere};
+ghost use Rattle.hs_expr.specs.Verdict.{unless, verdict};
 ghost use Rattle.hs_graph.specs.Faults as spec;
 ghost use Rattle.hs_graph.specs.Lookups as lookups;
 
@@ -13,16 +14,16 @@ use hs_types::{ClassNo, Meta};
 use std::alloc::Global;
 
 /// The number of each object's class, or the first class that isn't there or is abstract.
-pub fn classes_of(
+pub fn classes_of_objects(
     alloc: Global,
     meta: &Meta,
     objects: &[RawObject],
 ) -> Result<List<ClassNo>, Failure<GraphFault>>
-    ensures { PassesWith (λ classes. classes ≡ lookups.classes_of meta.now objects.now) result (spec.class_faults meta.now objects.now) }
+    ensures { GivesWhere (λ classes. classes ≡ lookups.classes_of_objects meta.now objects.now) result (verdict (spec.object_class_faults meta.now objects.now)) }
 {
     let mut classes = List::new(alloc);
     for (i, object) in objects.iter().enumerate() {
-        match class_of(meta, i, object) {
+        match class_of_object(meta, i, object) {
             Ok(class) => classes.push(class)?,
             Err(fault) => return Err(Failure::Fault(fault)),
         }
@@ -31,8 +32,8 @@ pub fn classes_of(
 }
 
 /// The number of the object's class.
-fn class_of(meta: &Meta, i: usize, object: &RawObject) -> Result<ClassNo, GraphFault>
-    ensures { result ≡ unless (spec.class_faults_at meta.now i object.now) (lookups.class_of meta.now object.now) }
+fn class_of_object(meta: &Meta, i: usize, object: &RawObject) -> Result<ClassNo, GraphFault>
+    ensures { result ≡ unless (spec.object_class_faults_at meta.now i object.now) (lookups.class_of_object meta.now object.now) }
 {
     match meta.class_named(&object.class) {
         None => Err(fault(

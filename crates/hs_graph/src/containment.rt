@@ -3,17 +3,17 @@
 ghost use Rattle.std.specs.Prelude.{◌≡◌, ℕ, false, get_or, map, IfOk};
 ghost use Rattle.std.specs.List.{filter};
 ghost use Rattle.hs_types.specs.TypedGraph.{IsTyped};
-ghost use Rattle.hs_graph.specs.Index.{edges_in};
+ghost use Rattle.hs_graph.specs.Index.{indexed_edges};
 ghost use Rattle.hs_graph.specs.Problems as spec;
 
 use crate::index::{EdgeIndex, edges_of};
-use hs_cycles::on_cycles;
 use hs_expr::List;
+use hs_reach::on_cycles;
 use hs_types::{Edge, FeatureKind, FeatureNo, Graph, Meta};
 use std::alloc::{AllocError, Global};
 
-/// For each number whether its object contains itself, by one step or more. Takes time and memory
-/// in proportion to the objects and edges, whatever contains what.
+/// For each number whether its object contains itself, by one step or more. Time and memory
+/// grow with the numbers that were ever given to objects, and with the edges.
 pub fn cycles_of(
     alloc: Global,
     meta: &Meta,
@@ -21,31 +21,31 @@ pub fn cycles_of(
     outgoing: &EdgeIndex,
 ) -> Result<List<bool>, AllocError>
     requires typed { IsTyped meta.now graph.now }
-    requires indexed { (n : ℕ) → edges_in outgoing.now n ≡ spec.edges_from graph.now n }
+    requires indexed { (n : ℕ) → indexed_edges outgoing.now n ≡ spec.edges_leaving graph.now n }
     ensures { IfOk result (λ marks. (n : ℕ) → get_or marks n false ≡ spec.is_in_itself meta.now graph.now n) }
 {
-    let contents = contents(alloc, meta, graph, outgoing)?;
-    on_cycles(alloc, contents.as_slice())
+    let containment_lists = containment_lists(alloc, meta, graph, outgoing)?;
+    on_cycles(alloc, containment_lists.as_slice())
 }
 
 /// Of each number the objects that its object contains.
-fn contents(
+fn containment_lists(
     alloc: Global,
     meta: &Meta,
     graph: &Graph,
     outgoing: &EdgeIndex,
 ) -> Result<List<List<usize>>, AllocError>
-    requires { (n : ℕ) → edges_in outgoing.now n ≡ spec.edges_from graph.now n }
-    ensures { IfOk result (λ made. made ≡ spec.contents meta.now graph.now) }
+    requires { (n : ℕ) → indexed_edges outgoing.now n ≡ spec.edges_leaving graph.now n }
+    ensures { IfOk result (λ made. made ≡ spec.containment_lists meta.now graph.now) }
 {
     let mut made = List::new(alloc);
     for n in 0..graph.next_object as usize {
-        made.push(contents_of(alloc, meta, edges_of(outgoing, n))?)?;
+        made.push(contained_objects(alloc, meta, edges_of(outgoing, n))?)?;
     }
     Ok(made)
 }
 
-fn contents_of(alloc: Global, meta: &Meta, edges: &[Edge]) -> Result<List<usize>, AllocError>
+fn contained_objects(alloc: Global, meta: &Meta, edges: &[Edge]) -> Result<List<usize>, AllocError>
     ensures { IfOk result (λ made. made ≡ map (λ edge. edge.target) (filter (λ edge. spec.is_containment meta.now edge.reference) edges.now)) }
 {
     let mut made = List::new(alloc);

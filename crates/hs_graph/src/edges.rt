@@ -3,10 +3,11 @@
 ghost use Rattle.std.specs.Prelude.{◌≡◌, ◌≤◌, ◌++◌, ℕ, List, map, length, IfOk, OnOk, option_copied, unwrap_or};
 ghost use Rattle.std.specs.HashMap.{get_by_text};
 ghost use Rattle.std.specs.List.{find};
-ghost use Rattle.hs_graph.specs.Answers.{PassesWith};
+ghost use Rattle.hs_expr.specs.Steps.{GivesWhere};
+ghost use Rattle.hs_expr.specs.Verdict.{verdict};
 ghost use Rattle.hs_graph.specs.Faults as faults;
 ghost use Rattle.hs_graph.specs.Links as spec;
-ghost use Rattle.hs_graph.specs.Lookups.{classes_of, is_reference_named as named, object_names, place_of};
+ghost use Rattle.hs_graph.specs.Lookups.{classes_of_objects, is_reference_named as named, object_names, place_of};
 ghost use Rattle.hs_graph.specs.Meaning as meaning;
 
 use crate::fault::{GraphFault, GraphFaultKind, GraphPlace, fault};
@@ -14,11 +15,9 @@ use crate::lookups::is_reference_named;
 use crate::numbers::Numbers;
 use crate::raw::{RawObject, RawRef};
 use hs_expr::{Failure, List, Text};
+use hs_types::limits::{MAX_EDGES, MAX_OBJECTS};
 use hs_types::{ClassNo, Edge, EdgeNo, FeatureNo, Meta, ObjectNo};
 use std::alloc::{AllocError, Global};
-
-/// The most edges.
-const MOST_EDGES: usize = 400_000;
 
 /// An edge before it is numbered.
 #[derive(Clone, Copy, PartialEq, Eq, Debug)]
@@ -36,11 +35,11 @@ pub fn all_links(
     classes: &[ClassNo],
     objects: &[RawObject],
 ) -> Result<List<Link>, Failure<GraphFault>>
-    requires few { length objects.now ≤ 200000 }
-    requires resolved { classes.now ≡ classes_of meta.now objects.now }
+    requires few { length objects.now ≤ MAX_OBJECTS }
+    requires resolved { classes.now ≡ classes_of_objects meta.now objects.now }
     requires numbered { (name : List ℕ) → get_by_text numbers.now name ≡ place_of (object_names objects.now) name }
-    ensures gives { PassesWith (λ links. links ≡ spec.all_links meta.now objects.now) result (faults.many_edges meta.now objects.now) }
-    ensures few { IfOk result (λ links. length links ≤ 400000) }
+    ensures gives { GivesWhere (λ links. links ≡ spec.all_links meta.now objects.now) result (verdict (faults.many_edges meta.now objects.now)) }
+    ensures few { IfOk result (λ links. length links ≤ MAX_EDGES) }
 {
     let mut links = List::new(alloc);
     for (i, object) in objects.iter().enumerate() {
@@ -52,7 +51,7 @@ pub fn all_links(
             object.refs.as_slice(),
             &mut links,
         )?;
-        if links.len() > MOST_EDGES {
+        if links.len() > MAX_EDGES {
             return Err(Failure::Fault(fault(GraphPlace::Graph, GraphFaultKind::Limit)));
         }
     }
@@ -131,8 +130,8 @@ fn number_of(numbers: &Numbers, name: &Text) -> ObjectNo
 
 /// The edges, numbered by their places.
 pub fn numbered_edges(alloc: Global, links: &[Link]) -> Result<List<Edge>, AllocError>
-    requires { length links.now ≤ 400000 }
-    ensures { IfOk result (λ made. made ≡ meaning.edges_from 0 links.now) }
+    requires { length links.now ≤ MAX_EDGES }
+    ensures { IfOk result (λ made. made ≡ meaning.edges_of_links 0 links.now) }
 {
     let mut made = List::new(alloc);
     for (i, link) in links.iter().enumerate() {

@@ -1,7 +1,5 @@
 ghost use Rattle.std.specs.Prelude.{◌≡◌};
-ghost use Rattle.hs_expr.specs.Steps.{Gives};
-
-use hs_expr::Failure;
+ghost use Rattle.hs_graph.specs.Words.{graph_word};
 
 /// What is wrong in written objects.
 #[derive(Clone, Copy, PartialEq, Eq, Debug)]
@@ -17,7 +15,7 @@ pub enum GraphFaultKind {
     Abstract,
     /// The object's class has no attribute of the name.
     UnknownAttribute,
-    /// What is written is no value of the attribute's type, or a text that is too long.
+    /// What is written isn't a value of the attribute's type, or is a text that is too long.
     BadValue,
     /// The object's class has no reference of the name.
     UnknownReference,
@@ -27,7 +25,27 @@ pub enum GraphFaultKind {
     BadTarget,
 }
 
-/// Where a fault is. Objects go by their places in what is written, and so do the attributes and the
+impl GraphFaultKind {
+    /// The word that the kind is printed as.
+    pub fn word(self) -> &'static str
+        ensures { result.now ≡ graph_word self }
+    {
+        match self {
+            GraphFaultKind::Limit => "limit",
+            GraphFaultKind::Name => "name",
+            GraphFaultKind::Twice => "twice",
+            GraphFaultKind::UnknownClass => "unknownclass",
+            GraphFaultKind::Abstract => "abstract",
+            GraphFaultKind::UnknownAttribute => "unknownattribute",
+            GraphFaultKind::BadValue => "badvalue",
+            GraphFaultKind::UnknownReference => "unknownreference",
+            GraphFaultKind::UnknownTarget => "unknowntarget",
+            GraphFaultKind::BadTarget => "badtarget",
+        }
+    }
+}
+
+/// Where a fault is. Objects go by their indices in what is written, and so do the attributes and the
 /// references of one, and the targets of a reference.
 #[derive(Clone, Copy, PartialEq, Eq, Debug)]
 pub enum GraphPlace {
@@ -56,7 +74,7 @@ pub enum GraphPlace {
     },
 }
 
-/// Why written objects are no graph.
+/// Why written objects aren't a graph.
 #[derive(Clone, Copy, PartialEq, Eq, Debug)]
 pub struct GraphFault {
     pub place: GraphPlace,
@@ -67,14 +85,4 @@ pub fn fault(place: GraphPlace, kind: GraphFaultKind) -> GraphFault
     ensures { result ≡ record { place = place; kind = kind } }
 {
     GraphFault { place, kind }
-}
-
-/// The same answer, of a call that may want memory.
-pub fn told(answer: Result<(), GraphFault>) -> Result<(), Failure<GraphFault>>
-    ensures { Gives result answer }
-{
-    match answer {
-        Ok(()) => Ok(()),
-        Err(fault) => Err(Failure::Fault(fault)),
-    }
 }

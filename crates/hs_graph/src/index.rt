@@ -8,8 +8,8 @@ ghost use Rattle.std.specs.List.{filter};
 ghost use Rattle.std.specs.Ordering.{nat_cmp};
 ghost use Rattle.std.specs.BTreeMap.{get};
 ghost use Rattle.hs_types.specs.TypedGraph.{object_at};
-ghost use Rattle.hs_graph.specs.Index.{edges_in, names_by, object_in};
-ghost use Rattle.hs_graph.specs.Problems.{edges_from, edges_to};
+ghost use Rattle.hs_graph.specs.Index.{indexed_edges, indexed_name, indexed_object};
+ghost use Rattle.hs_graph.specs.Problems.{edges_leaving, edges_entering};
 
 use hs_types::{Edge, Graph, Object, ObjectNo};
 use std::alloc::{AllocError, Global};
@@ -34,7 +34,7 @@ pub struct EdgeIndex {
 
 /// The objects of the graph by their numbers: of one number the first.
 pub fn objects_of(alloc: Global, graph: &Graph) -> Result<ObjectIndex<'_>, AllocError>
-    ensures { IfOk result (λ objects. (n : ℕ) → option_map (λ o. o.now) (object_in objects n) ≡ object_at graph.now n) }
+    ensures { IfOk result (λ objects. (n : ℕ) → option_map (λ o. o.now) (indexed_object objects n) ≡ object_at graph.now n) }
 {
     let mut objects = no_objects(alloc, graph.objects.len())?;
     for object in graph.objects.as_slice() {
@@ -44,7 +44,7 @@ pub fn objects_of(alloc: Global, graph: &Graph) -> Result<ObjectIndex<'_>, Alloc
 }
 
 fn no_objects<'a>(alloc: Global, places: usize) -> Result<ObjectIndex<'a>, AllocError>
-    ensures { IfOk result (λ objects. (n : ℕ) → object_in objects n ≡ None) }
+    ensures { IfOk result (λ objects. (n : ℕ) → indexed_object objects n ≡ None) }
 {
     Ok(ObjectIndex {
         near: vec![in alloc; None; places]?,
@@ -54,8 +54,8 @@ fn no_objects<'a>(alloc: Global, places: usize) -> Result<ObjectIndex<'a>, Alloc
 
 /// Adds an object, unless there is one of its number.
 fn add_object<'a>(objects: &mut ObjectIndex<'a>, object: &'a Object) -> Result<(), AllocError>
-    ensures { OnOk result ((n : ℕ) → option_map (λ o. o.now) (object_in objects.new n)
-        ≡ option_or (option_map (λ o. o.now) (object_in objects.old n)) (if eqb object.now.number n then Some object.now else None)) }
+    ensures { OnOk result ((n : ℕ) → option_map (λ o. o.now) (indexed_object objects.new n)
+        ≡ option_or (option_map (λ o. o.now) (indexed_object objects.old n)) (if eqb object.now.number n then Some object.now else None)) }
 {
     let place = object.number as usize;
     if place < objects.near.len() {
@@ -72,7 +72,7 @@ fn add_object<'a>(objects: &mut ObjectIndex<'a>, object: &'a Object) -> Result<(
 
 /// The name of the object of this number; the empty text where there is no such object.
 pub fn name_of<'a>(objects: &ObjectIndex<'a>, number: ObjectNo) -> &'a str
-    ensures { result.now ≡ names_by objects.now number }
+    ensures { result.now ≡ indexed_name objects.now number }
 {
     match object_of(objects, number) {
         Some(object) => object.name.as_str(),
@@ -82,7 +82,7 @@ pub fn name_of<'a>(objects: &ObjectIndex<'a>, number: ObjectNo) -> &'a str
 
 /// The object of this number.
 pub fn object_of<'a>(objects: &ObjectIndex<'a>, number: ObjectNo) -> Option<&'a Object>
-    ensures { result ≡ object_in objects.now number }
+    ensures { result ≡ indexed_object objects.now number }
 {
     match objects.near.get(number as usize) {
         Some(object) => *object,
@@ -92,7 +92,7 @@ pub fn object_of<'a>(objects: &ObjectIndex<'a>, number: ObjectNo) -> Option<&'a 
 
 /// The edges that leave each object.
 pub fn outgoing_of(alloc: Global, graph: &Graph) -> Result<EdgeIndex, AllocError>
-    ensures { IfOk result (λ edges. (n : ℕ) → edges_in edges n ≡ edges_from graph.now n) }
+    ensures { IfOk result (λ edges. (n : ℕ) → indexed_edges edges n ≡ edges_leaving graph.now n) }
 {
     let mut outgoing = no_edges(alloc, graph.objects.len())?;
     for edge in graph.edges.as_slice() {
@@ -103,7 +103,7 @@ pub fn outgoing_of(alloc: Global, graph: &Graph) -> Result<EdgeIndex, AllocError
 
 /// The edges that lead to each object.
 pub fn incoming_of(alloc: Global, graph: &Graph) -> Result<EdgeIndex, AllocError>
-    ensures { IfOk result (λ edges. (n : ℕ) → edges_in edges n ≡ edges_to graph.now n) }
+    ensures { IfOk result (λ edges. (n : ℕ) → indexed_edges edges n ≡ edges_entering graph.now n) }
 {
     let mut incoming = no_edges(alloc, graph.objects.len())?;
     for edge in graph.edges.as_slice() {
@@ -113,7 +113,7 @@ pub fn incoming_of(alloc: Global, graph: &Graph) -> Result<EdgeIndex, AllocError
 }
 
 fn no_edges(alloc: Global, places: usize) -> Result<EdgeIndex, AllocError>
-    ensures { IfOk result (λ edges. (n : ℕ) → edges_in edges n ≡ []) }
+    ensures { IfOk result (λ edges. (n : ℕ) → indexed_edges edges n ≡ []) }
 {
     Ok(EdgeIndex {
         near: no_rows(alloc, places)?,
@@ -138,7 +138,7 @@ fn add_edge(
     object: usize,
     edge: Edge,
 ) -> Result<(), AllocError>
-    ensures { OnOk result ((n : ℕ) → edges_in edges.new n ≡ edges_in edges.old n ++ (if eqb object n then edge ∷ [] else [])) }
+    ensures { OnOk result ((n : ℕ) → indexed_edges edges.new n ≡ indexed_edges edges.old n ++ (if eqb object n then edge ∷ [] else [])) }
 {
     if object < edges.near.len() {
         edges.near[object].push(edge)?;
@@ -169,7 +169,7 @@ fn add_far(
 
 /// The edges of the object of this number.
 pub fn edges_of(edges: &EdgeIndex, object: usize) -> &[Edge]
-    ensures { result.now ≡ edges_in edges.now object }
+    ensures { result.now ≡ indexed_edges edges.now object }
 {
     if let Some(found) = edges.near.get(object) {
         return found.as_slice();

@@ -3,7 +3,7 @@
 ghost use Rattle.std.specs.Prelude.{◌≡◌, option_copied};
 ghost use Rattle.std.specs.List.{find};
 ghost use Rattle.hs_types.specs.Metamodel.{is_attribute, supers_of};
-ghost use Rattle.hs_types.specs.Supertypes.{conforms as is_or_below};
+ghost use Rattle.hs_types.specs.Metamodel.{conforms as is_or_below};
 ghost use Rattle.hs_graph.specs.Faults as faults;
 ghost use Rattle.hs_graph.specs.Lookups as spec;
 

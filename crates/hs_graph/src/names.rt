@@ -1,36 +1,31 @@
 //! Names of objects, and the numbers that names like `#7` count.
 
-ghost use Rattle.std.specs.Prelude.{◌≡◌, Some, None, min, if◌then◌else◌};
+ghost use Rattle.std.specs.Prelude.{◌≡◌, ◌+◌, Some, None, min, if◌then◌else◌};
 ghost use Rattle.std.specs.List.{list_all};
 ghost use Rattle.std.specs.Option.{option_map};
 ghost use Rattle.hs_graph.specs.Names as spec;
 
 use hs_expr::Text;
-
-/// The most bytes of an object's name.
-const MOST_BYTES: usize = 128;
-
-/// The greatest number k that a name `#k` may have.
-const GREATEST: u64 = 3_000_000_000;
+use hs_types::limits::{MAX_NAME_BYTES, MAX_NAME_NUMBER};
 
 /// One above the number k of a name `#k`, 0 of another name, and none of a text that can't name an
 /// object.
 pub fn next_after(name: &Text) -> Option<u64>
     ensures { result ≡ (if spec.is_object_name name.now then Some (spec.next_after name.now) else None) }
 {
-    if name.is_empty() || name.len() > MOST_BYTES {
+    if name.is_empty() || name.len() > MAX_NAME_BYTES {
         return None;
     }
     match hash_number(name.as_str()) {
         None => Some(0),
-        Some(number) if number <= GREATEST => Some(number + 1),
+        Some(number) if number <= MAX_NAME_NUMBER => Some(number + 1),
         Some(_) => None,
     }
 }
 
-/// The number k of a name `#k`; one above the greatest stands for all that are greater.
+/// The number k of a name `#k`; all above the limit become one above it.
 fn hash_number(name: &str) -> Option<u64>
-    ensures { result ≡ option_map (min 3000000001) (spec.hash_number name.now) }
+    ensures { result ≡ option_map (min (MAX_NAME_NUMBER + 1)) (spec.hash_number name.now) }
 {
     match name.as_bytes() {
         [b'#', digits @ ..] if is_decimal(digits) => Some(capped_number(digits)),
@@ -48,20 +43,20 @@ fn is_decimal(digits: &[u8]) -> bool
 }
 
 fn are_digits(bytes: &[u8]) -> bool
-    ensures { result ≡ list_all spec.is_digit bytes.now }
+    ensures { result ≡ list_all spec.is_decimal_digit bytes.now }
 {
-    bytes.iter().all(|byte| is_digit(*byte))
+    bytes.iter().all(|byte| is_decimal_digit(*byte))
 }
 
-fn is_digit(byte: u8) -> bool
-    ensures { result ≡ spec.is_digit byte }
+fn is_decimal_digit(byte: u8) -> bool
+    ensures { result ≡ spec.is_decimal_digit byte }
 {
     matches!(byte, b'0'..=b'9')
 }
 
-/// The number that the digits write; one above the greatest stands for all that are greater.
+/// The number that the digits write; all above the limit become one above it.
 fn capped_number(digits: &[u8]) -> u64
-    ensures { result ≡ min 3000000001 (spec.number_after 0 digits.now) }
+    ensures { result ≡ min (MAX_NAME_NUMBER + 1) (spec.number_after 0 digits.now) }
 {
     let mut number = 0;
     for digit in digits {
@@ -71,11 +66,11 @@ fn capped_number(digits: &[u8]) -> u64
 }
 
 fn capped(number: u64) -> u64
-    ensures { result ≡ min 3000000001 number }
+    ensures { result ≡ min (MAX_NAME_NUMBER + 1) number }
 {
-    if number <= GREATEST {
+    if number <= MAX_NAME_NUMBER {
         number
     } else {
-        GREATEST + 1
+        MAX_NAME_NUMBER + 1
     }
 }

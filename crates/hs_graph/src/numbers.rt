@@ -2,8 +2,9 @@
 
 ghost use Rattle.std.specs.Prelude.{◌≡◌, ◌≤◌, max, ℕ, List, Some, cond, is_some, length, IfOk};
 ghost use Rattle.std.specs.HashMap.{get_by_text};
-ghost use Rattle.hs_types.specs.Lists.{same_text};
-ghost use Rattle.hs_graph.specs.Answers.{PassesWith};
+ghost use Rattle.hs_expr.specs.Lists.{same_text};
+ghost use Rattle.hs_expr.specs.Steps.{GivesWhere};
+ghost use Rattle.hs_expr.specs.Verdict.{verdict};
 ghost use Rattle.hs_graph.specs.Faults as spec;
 ghost use Rattle.hs_graph.specs.Lookups as lookups;
 ghost use Rattle.hs_graph.specs.Meaning as meaning;
@@ -13,6 +14,7 @@ use crate::names::next_after;
 use crate::raw::RawObject;
 use hs_expr::{Failure, Text};
 use hs_types::ObjectNo;
+use hs_types::limits::MAX_OBJECTS;
 use std::alloc::{AllocError, Global};
 use std::collections::HashMap;
 
@@ -28,8 +30,8 @@ pub struct Named {
 
 /// The numbers of the objects, or the first name that can't name an object or comes again.
 pub fn names_of(alloc: Global, objects: &[RawObject]) -> Result<Named, Failure<GraphFault>>
-    requires { length objects.now ≤ 200000 }
-    ensures { PassesWith (λ named. ((name : List ℕ) → get_by_text named.numbers name ≡ lookups.place_of (lookups.object_names objects.now) name) × (named.next_name ≡ meaning.next_name objects.now)) result (spec.name_faults objects.now) }
+    requires { length objects.now ≤ MAX_OBJECTS }
+    ensures { GivesWhere (λ named. ((name : List ℕ) → get_by_text named.numbers name ≡ lookups.place_of (lookups.object_names objects.now) name) × (named.next_name ≡ meaning.next_name_after (lookups.object_names objects.now))) result (verdict (spec.name_faults objects.now)) }
 {
     let mut numbers = Numbers::new(alloc);
     let mut next_name = 0;

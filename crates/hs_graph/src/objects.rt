@@ -1,12 +1,13 @@
 //! The objects that written ones mean.
 
 ghost use Rattle.std.specs.Prelude.{◌≡◌, ◌≤◌, length, IfOk};
-ghost use Rattle.hs_graph.specs.Lookups.{classes_of};
+ghost use Rattle.hs_graph.specs.Lookups.{classes_of_objects};
 ghost use Rattle.hs_graph.specs.Meaning as spec;
 
-use crate::attrs::slots_of;
+use crate::attrs::slots_for;
 use crate::raw::RawObject;
 use hs_expr::List;
+use hs_types::limits::MAX_OBJECTS;
 use hs_types::{ClassNo, Meta, Object, ObjectNo};
 use std::alloc::{AllocError, Global};
 
@@ -17,8 +18,8 @@ pub fn numbered_objects(
     classes: &[ClassNo],
     objects: &[RawObject],
 ) -> Result<List<Object>, AllocError>
-    requires few { length objects.now ≤ 200000 }
-    requires resolved { classes.now ≡ classes_of meta.now objects.now }
+    requires few { length objects.now ≤ MAX_OBJECTS }
+    requires resolved { classes.now ≡ classes_of_objects meta.now objects.now }
     ensures { IfOk result (λ made. made ≡ spec.objects_from meta.now 0 objects.now) }
 {
     let mut made = List::new(alloc);
@@ -36,12 +37,12 @@ fn object_of(
     number: ObjectNo,
     object: &RawObject,
 ) -> Result<Object, AllocError>
-    ensures { IfOk result (λ made. made ≡ record { number = number; name = object.now.name; class = class; slots = spec.slots_of meta.now class object.now.attrs }) }
+    ensures { IfOk result (λ made. made ≡ record { number = number; name = object.now.name; class = class; slots = spec.slots_for meta.now class object.now.attrs }) }
 {
     Ok(Object {
         number,
         name: object.name.clone()?,
         class,
-        slots: slots_of(alloc, meta, class, object.attrs.as_slice())?,
+        slots: slots_for(alloc, meta, class, object.attrs.as_slice())?,
     })
 }

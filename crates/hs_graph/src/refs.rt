@@ -4,7 +4,7 @@ ghost use Rattle.std.specs.Prelude.{◌≡◌, ◌<◌, ℕ, List, Some, length,
 ghost use Rattle.std.specs.HashMap.{get_by_text};
 ghost use Rattle.hs_expr.specs.Verdict.{verdict, each};
 ghost use Rattle.hs_graph.specs.Faults as spec;
-ghost use Rattle.hs_graph.specs.Lookups.{class_of, classes_of, object_names, place_of};
+ghost use Rattle.hs_graph.specs.Lookups.{class_of_object, classes_of_objects, object_names, place_of};
 
 use crate::fault::{GraphFault, GraphFaultKind, GraphPlace, fault};
 use crate::lookups::{both_conform, reference_named};
@@ -22,7 +22,7 @@ pub fn refs_right(
     classes: &[ClassNo],
     objects: &[RawObject],
 ) -> Result<(), GraphFault>
-    requires resolved { classes.now ≡ classes_of meta.now objects.now }
+    requires resolved { classes.now ≡ classes_of_objects meta.now objects.now }
     requires numbered { (name : List ℕ) → get_by_text numbers.now name ≡ place_of (object_names objects.now) name }
     ensures { result ≡ verdict (spec.ref_faults meta.now objects.now) }
 {
@@ -40,8 +40,8 @@ fn refs_right_at(
     object: &RawObject,
 ) -> Result<(), GraphFault>
     requires { i < length classes.now }
-    ensures { (objects : List RawObject) → classes.now ≡ classes_of meta.now objects → ((name : List ℕ) → get_by_text numbers.now name ≡ place_of (object_names objects) name) → slice_get objects i ≡ Some object.now
-        → result ≡ verdict (each (spec.ref_faults_at meta.now (object_names objects) (classes_of meta.now objects) (class_of meta.now object.now) i) object.now.refs) }
+    ensures { (objects : List RawObject) → classes.now ≡ classes_of_objects meta.now objects → ((name : List ℕ) → get_by_text numbers.now name ≡ place_of (object_names objects) name) → slice_get objects i ≡ Some object.now
+        → result ≡ verdict (each (spec.ref_faults_at meta.now (object_names objects) (classes_of_objects meta.now objects) (class_of_object meta.now object.now) i) object.now.refs) }
 {
     refs_right_in(
         meta,

@@ -6,7 +6,7 @@ ghost use Rattle.std.specs.Option.{option_map_or};
 ghost use Rattle.hs_expr.specs.Verdict.{fault_if};
 ghost use Rattle.hs_types.specs.Metamodel.{feature_at};
 ghost use Rattle.hs_types.specs.TypedGraph.{IsTyped};
-ghost use Rattle.hs_graph.specs.Index.{edges_in};
+ghost use Rattle.hs_graph.specs.Index.{indexed_edges};
 ghost use Rattle.hs_graph.specs.Problems as spec;
 
 use crate::containment::{cycles_of, is_containment};
@@ -49,8 +49,8 @@ fn add_problems_at(
     object: &Object,
     problems: &mut List<Problem>,
 ) -> Result<(), AllocError>
-    requires leave { (n : ℕ) → edges_in outgoing.now n ≡ spec.edges_from graph.now n }
-    requires arrive { (n : ℕ) → edges_in incoming.now n ≡ spec.edges_to graph.now n }
+    requires leave { (n : ℕ) → indexed_edges outgoing.now n ≡ spec.edges_leaving graph.now n }
+    requires arrive { (n : ℕ) → indexed_edges incoming.now n ≡ spec.edges_entering graph.now n }
     requires marked { (n : ℕ) → get_or cycles.now n false ≡ spec.is_in_itself meta.now graph.now n }
     ensures { OnOk result (problems.new ≡ problems.old ++ spec.problems_at meta.now graph.now object.now) }
 {

@@ -4,7 +4,7 @@ use Rattle.std.specs.Prelude.{String}
 use Rattle.std.specs.declared.alloc.Global.{Global}
 use Rattle.serde_json.specs.View.{members_view}
 use Rattle.serde_json.specs.declared.value.Value.{Value}
-use Rattle.hs_forms.specs.Form.{entries}
+use Rattle.hs_json_form.specs.Form.{entries}
 
 pub count : (ms : List (String Global × Value)) → length (entries (members_view ms)) ≡ length ms
 count [] = refl

@@ -7,8 +7,8 @@ use Rattle.hs_text.specs.declared.syntax.Syntax.{Syntax}
 use Rattle.hs_text.specs.Parsing.{IsSyntaxOf}
 use Rattle.hs_types.specs.declared.request.Request.{Request}
 use Rattle.hs_types.specs.Journal.{meta_of}
-use Rattle.hs_bundle.specs.Reading.{Contents, IsAnswer}
-use Rattle.hs_rules.specs.UnitFaults.{faults_of}
+use Rattle.hs_json.specs.Reading.{Contents, IsBundleAnswer}
+use Rattle.hs_faults.specs.UnitFaults.{faults_of}
 use Rattle.hs_check.specs.Meaning.{IsMeant}
 use Rattle.hs_check.specs.Rules.{rules_meant}
 use Rattle.hs_check.specs.Units.{units_meant}
@@ -16,13 +16,13 @@ use Rattle.hs_input.specs.declared.reading.Input.{Input}
 use Rattle.hs_input.specs.Sessions.{sessions_asked}
 
 pub record IsRead (bytes : List ℕ) (held : Contents) (syntax : Syntax) : Type 0 where
-  pub is_bundle : IsAnswer bytes (Ok held)
+  pub is_bundle : IsBundleAnswer bytes (Ok held)
   pub is_syntax : IsSyntaxOf (chars held.rules) syntax
   pub is_right : verdict (faults_of held.meta syntax.definitions) ≡ Ok tt
 
 -- What is asked for of the rules and units that the syntax means.
 abbrev pub asked : Contents → Syntax → Option (List (List Request))
-asked held syntax = sessions_asked (rules_meant held.meta syntax.definitions) (units_meant held.meta syntax.definitions) held.whole
+asked held syntax = sessions_asked (rules_meant held.meta syntax.definitions) (units_meant held.meta syntax.definitions) held.sessions held.journal
 
 -- What is asked for is built: these requests of each session.
 pub record IsBuilt (bytes : List ℕ) (held : Contents) (syntax : Syntax) (sessions : List (List Request)) : Type 0 where

@@ -4,19 +4,18 @@ use Rattle.std.specs.Str.{chars}
 use Rattle.hs_expr.specs.declared.failure.Failure.{Failure}
 use Rattle.hs_expr.specs.declared.failure.Failure.TheVariants as failed
 use Rattle.hs_expr.specs.Verdict.{verdict}
-use Rattle.hs_tokens.specs.declared.fault.TextFault.TheVariants as text
 use Rattle.hs_text.specs.declared.syntax.Syntax.{Syntax}
 use Rattle.hs_text.specs.Parsing.{IsSyntaxOf, IsTextFault}
-use Rattle.hs_bundle.specs.Reading.{Contents, IsAnswer}
-use Rattle.hs_rules.specs.UnitFaults.{faults_of}
+use Rattle.hs_json.specs.Reading.{Contents, IsBundleAnswer}
+use Rattle.hs_faults.specs.UnitFaults.{faults_of}
 use Rattle.hs_input.specs.declared.refusal.Refusal.{Refusal}
 use Rattle.hs_input.specs.declared.refusal.Refusal.TheVariants.{NoBundle, BadText, BadRule, NotBuilt}
 use Rattle.hs_input.specs.Input.{IsRead, asked}
 
 abbrev pub Refuses : List ℕ → Refusal → Type 0
-Refuses bytes (NoBundle fault) = IsAnswer bytes (Err fault)
-Refuses bytes (BadText line column kind) = (held : Contents) × IsAnswer bytes (Ok held) × IsTextFault (chars held.rules) (text.Fault line column kind)
-Refuses bytes (BadRule fault) = (held : Contents) × (syntax : Syntax) × IsAnswer bytes (Ok held) × IsSyntaxOf (chars held.rules) syntax × (verdict (faults_of held.meta syntax.definitions) ≡ Err fault)
+Refuses bytes (NoBundle fault) = IsBundleAnswer bytes (Err fault)
+Refuses bytes (BadText line column kind) = (held : Contents) × IsBundleAnswer bytes (Ok held) × IsTextFault (chars held.rules) (record { line = line; column = column; kind = kind })
+Refuses bytes (BadRule fault) = (held : Contents) × (syntax : Syntax) × IsBundleAnswer bytes (Ok held) × IsSyntaxOf (chars held.rules) syntax × (verdict (faults_of held.meta syntax.definitions) ≡ Err fault)
 Refuses bytes NotBuilt = (held : Contents) × (syntax : Syntax) × IsRead bytes held syntax × (asked held syntax ≡ None)
 
 -- A refusal has its cause; want of memory is free.

@@ -1,25 +1,27 @@
 ghost use Rattle.std.specs.Prelude.{◌≡◌, ℕ, List, IfErr, IfOk, IfSome, Ok, Some, None};
 ghost use Rattle.std.specs.Arc.{arc_value};
 ghost use Rattle.std.specs.Str.{chars};
-ghost use Rattle.serde_json.specs.View.{view};
 ghost use Rattle.hs_expr.specs.Verdict.{verdict};
 ghost use Rattle.hs_text.specs.Parsing.{IsSyntaxOf};
 ghost use Rattle.hs_types.specs.Journal.{meta_of};
 ghost use Rattle.hs_types.specs.Metamodel.{IsMeta};
 ghost use Rattle.hs_types.specs.UnitForm.{IsRuleSet};
-ghost use Rattle.hs_bundle.specs.Reading.{Contents, IsAnswer, contents};
-ghost use Rattle.hs_bundle.specs.Sound.{IsSound};
-ghost use Rattle.hs_rules.specs.UnitFaults.{faults_of};
+ghost use Rattle.hs_json.specs.Reading.{Contents, IsBundleAnswer, contents};
+ghost use Rattle.hs_json_model.specs.Sound.{IsSound};
+ghost use Rattle.hs_faults.specs.UnitFaults.{faults_of};
 ghost use Rattle.hs_check.specs.Meaning.{IsMeant};
+ghost use Rattle.hs_input.specs.declared.refusal.Refusal.TheVariants.{NoBundle, BadText, BadRule};
 ghost use Rattle.hs_input.specs.Input.{IsInput, IsRead};
 ghost use Rattle.hs_input.specs.Refusing.{Tells};
 ghost use Rattle.hs_input.specs.Sessions as asking;
+ghost use Rattle.hs_input.specs.Sessions.{seen};
 
 use crate::refusal::Refusal;
 use crate::sessions::sessions_asked;
-use hs_bundle::{Bundle, read_bundle};
 use hs_check::check;
-use hs_expr::{Failure, List};
+use hs_expr::{Failure, List, fault_as};
+use hs_faults::RuleFault;
+use hs_json::{Bundle, BundleFault, read_bundle};
 use hs_text::{Syntax, TextFault, parse};
 use hs_types::{ListGraph, Meta, Request, RuleSet};
 use serde_json::Value;
@@ -49,11 +51,12 @@ pub fn read_input(alloc: Global, bytes: &[u8]) -> Result<Input, Failure<Refusal>
     let Bundle {
         graph,
         rules,
-        whole,
+        sessions,
+        journal,
     } = bundle_of(alloc, bytes)?;
     let syntax = syntax_of(alloc, rules.as_str())?;
     let rules = rules_of(alloc, &graph.meta, &syntax)?;
-    let sessions = sessions_built(alloc, &rules, &whole)?;
+    let sessions = sessions_built(alloc, &rules, sessions.as_ref(), journal.as_ref())?;
     Ok(Input {
         graph,
         syntax,
@@ -63,28 +66,34 @@ pub fn read_input(alloc: Global, bytes: &[u8]) -> Result<Input, Failure<Refusal>
 }
 
 fn bundle_of(alloc: Global, bytes: &[u8]) -> Result<Bundle, Failure<Refusal>>
-    ensures read { IfOk result (λ bundle. IsAnswer bytes.now (Ok (contents bundle))) }
+    ensures read { IfOk result (λ bundle. IsBundleAnswer bytes.now (Ok (contents bundle))) }
     ensures sound { IfOk result (λ bundle. IsSound (arc_value bundle.graph.meta) bundle.graph.graph) }
     ensures refused { Tells bytes.now result }
 {
-    match read_bundle(alloc, bytes) {
-        Ok(bundle) => Ok(bundle),
-        Err(Failure::Fault(fault)) => Err(Failure::Fault(Refusal::NoBundle(fault))),
-        Err(Failure::NoMemory) => Err(Failure::NoMemory),
-    }
+    fault_as(
+        read_bundle(alloc, bytes),
+        &|fault: BundleFault| -> Refusal
+            ensures { result ≡ NoBundle fault }
+        { Refusal::NoBundle(fault) },
+    )
 }
 
 fn syntax_of(alloc: Global, text: &str) -> Result<Syntax, Failure<Refusal>>
     ensures parsed { IfOk result (IsSyntaxOf (chars text.now)) }
-    ensures refused { (bytes : List ℕ) (held : Contents) → held.rules ≡ text.now → IsAnswer bytes (Ok held) → Tells bytes result }
+    ensures refused { (bytes : List ℕ) (held : Contents) → held.rules ≡ text.now → IsBundleAnswer bytes (Ok held) → Tells bytes result }
 {
-    match parse(alloc, text) {
-        Ok(syntax) => Ok(syntax),
-        Err(TextFault::Fault { line, column, kind }) => {
-            Err(Failure::Fault(Refusal::BadText { line, column, kind }))
-        }
-        Err(TextFault::NoMemory) => Err(Failure::NoMemory),
-    }
+    fault_as(
+        parse(alloc, text),
+        &|fault: TextFault| -> Refusal
+            ensures { result ≡ BadText fault.line fault.column fault.kind }
+        {
+            Refusal::BadText {
+                line: fault.line,
+                column: fault.column,
+                kind: fault.kind,
+            }
+        },
+    )
 }
 
 /// The rules and units that the syntax means, where nothing is wrong in them.
@@ -93,25 +102,27 @@ fn rules_of(alloc: Global, meta: &Arc<Meta>, syntax: &Syntax) -> Result<RuleSet,
     ensures meant { IfOk result (IsMeant (arc_value meta.now) syntax.now.definitions) }
     ensures model { IfOk result (λ set. meta_of set ≡ arc_value meta.now) }
     ensures formed { IsMeta (arc_value meta.now) → IfOk result (λ set. IsRuleSet (arc_value meta.now) set.rules set.units) }
-    ensures refused { (bytes : List ℕ) (held : Contents) → held.meta ≡ arc_value meta.now → IsAnswer bytes (Ok held) → IsSyntaxOf (chars held.rules) syntax.now → Tells bytes result }
+    ensures refused { (bytes : List ℕ) (held : Contents) → held.meta ≡ arc_value meta.now → IsBundleAnswer bytes (Ok held) → IsSyntaxOf (chars held.rules) syntax.now → Tells bytes result }
 {
-    match check(alloc, meta, syntax) {
-        Ok(set) => Ok(set),
-        Err(Failure::Fault(fault)) => Err(Failure::Fault(Refusal::BadRule(fault))),
-        Err(Failure::NoMemory) => Err(Failure::NoMemory),
-    }
+    fault_as(
+        check(alloc, meta, syntax),
+        &|fault: RuleFault| -> Refusal
+            ensures { result ≡ BadRule fault }
+        { Refusal::BadRule(fault) },
+    )
 }
 
 /// The requests of each session, where they are built.
 fn sessions_built(
     alloc: Global,
     rules: &RuleSet,
-    whole: &Value,
+    sessions: Option<&Value>,
+    journal: Option<&Value>,
 ) -> Result<List<List<Request>>, Failure<Refusal>>
-    ensures asked { IfOk result (λ sessions. asking.sessions_asked rules.now.rules rules.now.units (view whole.now) ≡ Some sessions) }
-    ensures refused { (bytes : List ℕ) (held : Contents) (syntax : Syntax) → held.whole ≡ view whole.now → IsMeant held.meta syntax.definitions rules.now → IsRead bytes held syntax → Tells bytes result }
+    ensures asked { IfOk result (λ found. asking.sessions_asked rules.now.rules rules.now.units (seen sessions.entry) (seen journal.entry) ≡ Some found) }
+    ensures refused { (bytes : List ℕ) (held : Contents) (syntax : Syntax) → held.sessions ≡ seen sessions.entry → held.journal ≡ seen journal.entry → IsMeant held.meta syntax.definitions rules.now → IsRead bytes held syntax → Tells bytes result }
 {
-    match sessions_asked(alloc, rules, whole)? {
+    match sessions_asked(alloc, rules, sessions, journal)? {
         Some(sessions) => Ok(sessions),
         None => Err(Failure::Fault(Refusal::NotBuilt)),
     }

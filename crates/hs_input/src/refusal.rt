@@ -1,5 +1,5 @@
-use hs_bundle::BundleFault;
-use hs_rules::RuleFault;
+use hs_faults::RuleFault;
+use hs_json::BundleFault;
 use hs_text::FaultKind;
 
 /// Why bytes that were read to their end are refused.

@@ -1,47 +1,48 @@
 //! What a bundle asks for.
 
 ghost use Rattle.std.specs.Prelude.{◌≡◌, IfOk, not, option_and_then, option_map};
-ghost use Rattle.std.specs.List.{list_all};
 ghost use Rattle.std.specs.Option.{option_copied, option_map_or};
 ghost use Rattle.serde_json.specs.Data.{Data};
 ghost use Rattle.serde_json.specs.View.{view};
-ghost use Rattle.hs_types.specs.Pattern.{is_drop};
+ghost use Rattle.hs_types.specs.Additions.{is_empty};
 ghost use Rattle.hs_input.specs.Sessions as spec;
+ghost use Rattle.hs_input.specs.Sessions.{seen};
 
 use hs_expr::{List, Text};
-use hs_types::{Args, Mark, PatternEdge, PatternNode, Request, Rule, RuleSet, Shape};
+use hs_types::{Args, Request, Rule, RuleSet};
 use serde_json::Value;
 use std::alloc::{AllocError, Global};
 
 /// The fuel of a request that names none.
 const DEFAULT_FUEL: u32 = 1_000;
 
-/// The requests of each session in a bundle of this whole value, with these rules; none where what is
-/// asked for isn't built.
+/// The requests of each session in a bundle with these sessions and this journal, with these rules;
+/// none where what is asked for isn't built.
 pub fn sessions_asked(
     alloc: Global,
     rules: &RuleSet,
-    whole: &Value,
+    sessions: Option<&Value>,
+    journal: Option<&Value>,
 ) -> Result<Option<List<List<Request>>>, AllocError>
-    ensures { IfOk result (λ sessions. sessions ≡ spec.sessions_asked rules.now.rules rules.now.units (view whole.now)) }
+    ensures { IfOk result (λ asked. asked ≡ spec.sessions_asked rules.now.rules rules.now.units (seen sessions.entry) (seen journal.entry)) }
 {
-    if !has_none(whole, "journal") {
+    if !has_none(journal) {
         return Ok(None);
     }
-    if has_none(whole, "sessions") {
+    if has_none(sessions) {
         return Ok(Some(List::new(alloc)));
     }
-    Ok(match rule_called(rules, whole) {
+    Ok(match rule_called(rules, sessions) {
         Some(rule) => Some(once(alloc, rule)?),
         None => None,
     })
 }
 
-/// Whether the list at this key is left out, or empty.
-fn has_none(whole: &Value, key: &str) -> bool
-    ensures { result ≡ spec.has_none key.now (view whole.now) }
+/// Whether the list is left out, or empty.
+fn has_none(list: Option<&Value>) -> bool
+    ensures { result ≡ spec.has_none (seen list.entry) }
 {
-    match whole.get(key) {
+    match list {
         Some(list) => is_empty_list(list),
         None => true,
     }
@@ -54,11 +55,11 @@ fn is_empty_list(value: &Value) -> bool
 }
 
 /// The one rule, where the sessions call it and it only adds.
-fn rule_called<'a>(rules: &'a RuleSet, whole: &Value) -> Option<&'a Rule>
-    ensures { option_copied result ≡ spec.rule_called rules.now.rules rules.now.units (view whole.now) }
+fn rule_called<'a>(rules: &'a RuleSet, sessions: Option<&Value>) -> Option<&'a Rule>
+    ensures { option_copied result ≡ spec.rule_called rules.now.rules rules.now.units (seen sessions.entry) }
 {
     let rule = only_rule(rules)?;
-    if only_adds(rule) && is_called(rule, whole) {
+    if is_built_rule(rule) && is_called(rule, sessions) {
         Some(rule)
     } else {
         None
@@ -74,62 +75,33 @@ fn only_rule(rules: &RuleSet) -> Option<&Rule>
     }
 }
 
-/// Whether the rule keeps and makes, and that is all.
-fn only_adds(rule: &Rule) -> bool
-    ensures { result ≡ spec.only_adds rule.now }
+/// Whether the rule only adds, and has no parameters.
+fn is_built_rule(rule: &Rule) -> bool
+    ensures { result ≡ spec.is_built_rule rule.now }
 {
-    keeps_all(&rule.shape) && is_bare(rule)
+    rule.only_adds() && has_no_params(rule)
 }
 
-fn keeps_all(shape: &Shape) -> bool
-    ensures { result ≡ spec.keeps_all shape.now }
+fn has_no_params(rule: &Rule) -> bool
+    ensures { result ≡ is_empty rule.now.params }
 {
-    keeps_nodes(shape.nodes.as_slice()) && keeps_edges(shape.edges.as_slice())
+    matches!(rule.params.as_slice(), [])
 }
 
-fn keeps_nodes(nodes: &[PatternNode]) -> bool
-    ensures { result ≡ list_all (λ node. not (is_drop node.mark)) nodes.now }
+fn is_called(rule: &Rule, sessions: Option<&Value>) -> bool
+    ensures { result ≡ spec.is_called (seen sessions.entry) rule.now }
 {
-    nodes.iter().all(|node| !is_drop(node.mark))
-}
-
-fn keeps_edges(edges: &[PatternEdge]) -> bool
-    ensures { result ≡ list_all (λ edge. not (is_drop edge.mark)) edges.now }
-{
-    edges.iter().all(|edge| !is_drop(edge.mark))
-}
-
-fn is_drop(mark: Mark) -> bool
-    ensures { result ≡ is_drop mark }
-{
-    matches!(mark, Mark::Drop)
-}
-
-fn is_bare(rule: &Rule) -> bool
-    ensures { result ≡ spec.is_bare rule.now }
-{
-    rule.params.is_empty()
-        && rule.forbids.is_empty()
-        && rule.needs.is_empty()
-        && rule.multis.is_empty()
-        && rule.wheres.is_empty()
-        && rule.sets.is_empty()
-}
-
-fn is_called(rule: &Rule, whole: &Value) -> bool
-    ensures { result ≡ spec.is_called (view whole.now) rule.now }
-{
-    match called(whole) {
+    match called(sessions) {
         Some(name) => rule.name.as_str() == name,
         None => false,
     }
 }
 
 /// What the sessions call.
-fn called(whole: &Value) -> Option<&str>
-    ensures { option_map (λ name. name.now) result ≡ spec.called (view whole.now) }
+fn called(sessions: Option<&Value>) -> Option<&str>
+    ensures { option_map (λ name. name.now) result ≡ spec.called (seen sessions.entry) }
 {
-    call_in(whole.get("sessions")?)
+    call_in(sessions?)
 }
 
 /// What the one request of the one session calls, of which it says no more.

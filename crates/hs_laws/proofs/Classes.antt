@@ -1,16 +1,17 @@
 -- Conformance, and what classes inherit.
-use Rattle.std.proofs.Common.{ℕ, suc, zero, ◌<◌, ◌≡◌, inl, inr, List, [], ◌∷◌, ◌++◌, length, Bool, true, false, not, eqb, Option, Some, None, IsSomeAnd, slice_get, refl, sym, ap, subst, arith}
+use Rattle.std.proofs.Common.{ℕ, suc, zero, ◌<◌, ◌≡◌, inl, inr, List, [], ◌∷◌, ◌++◌, length, true, false, not, eqb, Option, Some, None, IsSomeAnd, slice_get, refl, ap, subst, arith}
 use Rattle.std.specs.List.{filter, flat_map}
 use Rattle.std.specs.Option.{is_some}
 use Rattle.std.proofs.lemmas.Bool.{cases_Bool, both_ways, eqb-true, eq-eqb}
+use Rattle.hs_expr.proofs.Items.{has-filter, has-kept}
 use Rattle.hs_types.specs.declared.graph.Graph.{Graph}
 use Rattle.hs_types.specs.declared.graph.Object.{Object}
 use Rattle.hs_types.specs.declared.meta.Class.{Class}
 use Rattle.hs_types.specs.declared.meta.Metamodel.{Metamodel}
-use Rattle.hs_types.specs.Lists.{has, each_once}
+use Rattle.hs_expr.specs.Lists.{has, each_once}
 use Rattle.hs_types.specs.Metamodel.{Conforms, itself, above, HasSuper, IsMeta, attributes_of, class_at, features_of, owned_by, type_of}
 use Rattle.hs_types.specs.TypedGraph.{IsOf, Stands, object_at}
-use Rattle.hs_laws.proofs.Lists.{has-append_left, has-append_right, has-here, has-later, has_cases}
+use Rattle.hs_expr.proofs.Lists.{has-append_left, has-append_right, has-here, has-later, has_cases}
 
 pub Conforms-trans : (m : Metamodel) (a b c : ℕ) → Conforms m a b → Conforms m b c → Conforms m a c
 Conforms-trans m a b c (itself d) k = k
@@ -23,33 +24,13 @@ GoesDown m P = (c d : ℕ) → Conforms m c d → P d → P c
 pub conforms-down : (m : Metamodel) (class : ℕ) → GoesDown m (λ c. Conforms m c class)
 conforms-down m class c d k h = Conforms-trans m c d class k h
 
-pub has-filter : (q : ℕ → Bool) (ns : List ℕ) (n : ℕ) → has ns n ≡ true → q n ≡ true → has (filter q ns) n ≡ true
-has-filter q [] n h k = h
-has-filter q (m ∷ ns) n h k = elim (has_cases n m ns h) [
-  | inl e ↦ let t : q m ≡ true = subst (λ (i : ℕ). q i ≡ true) e k in rw t (subst (λ (i : ℕ). has (i ∷ filter q ns) n ≡ true) e (has-here n (filter q ns)))
-  | inr l ↦ elim (cases_Bool (q m)) [
-    | inl t ↦ rw t (has-later n m (filter q ns) (has-filter q ns n l k))
-    | inr t ↦ rw t (has-filter q ns n l k)
-  ]
-]
-
-pub has-filter_was : (q : ℕ → Bool) (ns : List ℕ) (n : ℕ) → has (filter q ns) n ≡ true → (has ns n ≡ true) × (q n ≡ true)
-has-filter_was q [] n h = absurd (both_ways false refl h)
-has-filter_was q (m ∷ ns) n h = elim (cases_Bool (q m)) [
-  | inl t ↦ elim (has_cases n m (filter q ns) (rw t at h)) [
-    | inl e ↦ (subst (λ (i : ℕ). has (i ∷ ns) n ≡ true) e (has-here n ns), subst (λ (i : ℕ). q i ≡ true) (sym e) t)
-    | inr l ↦ let r = has-filter_was q ns n l in (has-later n m ns r.0, r.1)
-  ]
-  | inr t ↦ let r = has-filter_was q ns n (rw t at h) in (has-later n m ns r.0, r.1)
-]
-
 pub has-each_once : (ns : List ℕ) (n : ℕ) → has ns n ≡ true → has (each_once ns) n ≡ true
 has-each_once [] n h = h
 has-each_once (m ∷ ns) n h = elim (cases_Bool (eqb n m)) [
   | inl e ↦ subst (λ (i : ℕ). has (i ∷ filter (λ k. not (eqb k m)) (each_once ns)) n ≡ true) (eqb-true n m e) (has-here n (filter (λ k. not (eqb k m)) (each_once ns)))
   | inr e ↦ elim (has_cases n m ns h) [
     | inl s ↦ absurd (both_ways (eqb n m) e (eq-eqb n m s))
-    | inr l ↦ has-later n m (filter (λ k. not (eqb k m)) (each_once ns)) (has-filter (λ k. not (eqb k m)) (each_once ns) n (has-each_once ns n l) (ap not e))
+    | inr l ↦ has-later n m (filter (λ k. not (eqb k m)) (each_once ns)) (has-kept (λ k. not (eqb k m)) (each_once ns) n (has-each_once ns n l) (ap not e))
   ]
 ]
 
@@ -81,7 +62,7 @@ feature-down m f w c d (itself e) h = h
 feature-down m f w c d (above e i k s r) h = super-feature m c i f w s (feature-down m f w i d r h)
 
 pub attribute-down : (m : Metamodel) (a : ℕ) → IsMeta m → GoesDown m (λ c. has (attributes_of m c) a ≡ true)
-attribute-down m a w c d k h = let was = has-filter_was (λ f. is_some (type_of m f)) (features_of m d) a h in has-filter (λ f. is_some (type_of m f)) (features_of m c) a (feature-down m a w c d k was.0) was.1
+attribute-down m a w c d k h = let was = has-filter (λ f. is_some (type_of m f)) (features_of m d) a h in has-kept (λ f. is_some (type_of m f)) (features_of m c) a (feature-down m a w c d k was.0) was.1
 
 -- What goes down holds where an object of the class stands.
 pub Stands-down : (m : Metamodel) (g : Graph) (P : ℕ → Type 0) (class n : ℕ) → GoesDown m P → P class → IsOf m g class n → Stands g P n

@@ -26,7 +26,7 @@ use Rattle.hs_types.specs.declared.rule.SlotKind.TheVariants.{Attribute, Link, C
 use Rattle.hs_types.specs.Conditions.{env_of}
 use Rattle.hs_types.specs.Copies.{At, Copy, SparesCopy, copies_of, copy_env, images_of, nodes_of, slots_at, used_slots, written_slots}
 use Rattle.hs_types.specs.Dangling.{dropped_edges, dropped_nodes}
-use Rattle.hs_types.specs.Lists.{has, Apart, Differ, EachPair}
+use Rattle.hs_expr.specs.Lists.{has, Apart, Differ, EachPair}
 use Rattle.hs_types.specs.Metamodel.{IsMeta, attributes_of}
 use Rattle.hs_types.specs.Pattern.{is_drop, is_keep, is_kind, is_left, is_make, left_edges, left_nodes, node_is}
 use Rattle.hs_types.specs.Plan.{Fits, copy_writes, plan_of, writes_of}
@@ -36,8 +36,9 @@ use Rattle.hs_types.specs.TypedGraph.{AreSlotsOf, IsTyped, Stands, edge_at, obje
 use Rattle.hs_types.specs.ValidMatch.{IsValid, all_dropped_nodes}
 use Rattle.hs_laws.proofs.Classes.{Stands-down, attribute-down}
 use Rattle.hs_laws.proofs.Images.{FitsNode, IsLeft, IsLeft-from, image-among, image-at, image-behind, image-injective, joined}
-use Rattle.hs_laws.proofs.Kept.{has_slot-all, object_there}
-use Rattle.hs_laws.proofs.Lists.{All-beside, All-both, All-filter_map, All-find, All-flat_map, All-kept, All-of_filter, All-of_map, All-one, AllZip-right, Differ-across, Differ-beside, Differ-not, EachPair-append, EachPair-filter, EachPair-filter_map, EachPair-flat_map, EachPair-known, EachPair-rest, EachPair-weaker, beside-has, has_cases, has-here, has-later, has_not, slice_get-last}
+use Rattle.hs_types.proofs.Lookups.{object_there}
+use Rattle.hs_laws.proofs.Kept.{has_slot-all}
+use Rattle.hs_expr.proofs.Lists.{All-beside, All-both, All-filter_map, All-find, All-flat_map, All-kept, All-of_filter, All-of_map, All-one, AllZip-right, Differ-across, Differ-beside, Differ-not, EachPair-append, EachPair-filter, EachPair-filter_map, EachPair-flat_map, EachPair-known, EachPair-rest, EachPair-weaker, beside-has, has_cases, has-here, has-later, has_not, slice_get-last}
 use Rattle.hs_laws.proofs.Planned.{left_or_made, not_dropped, plan-carries}
 use Rattle.hs_laws.proofs.Staying.{CopyIs, CopyStays, copies_are, copies_stay, kernel_stays}
 use Rattle.hs_laws.proofs.Typed.{Carries}

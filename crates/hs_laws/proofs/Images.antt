@@ -8,11 +8,11 @@ use Rattle.hs_types.specs.declared.matching.Extension.{Extension}
 use Rattle.hs_types.specs.declared.meta.Metamodel.{Metamodel}
 use Rattle.hs_types.specs.declared.rule.PatternNode.{PatternNode}
 use Rattle.hs_types.specs.declared.rule.Shape.{Shape}
-use Rattle.hs_types.specs.Lists.{has, beside, Differ}
+use Rattle.hs_expr.specs.Lists.{has, beside, Differ}
 use Rattle.hs_types.specs.Pattern.{is_left, is_drop, left_nodes, node_is}
 use Rattle.hs_types.specs.PlainMatch.{image, Extends, IsPlain}
 use Rattle.hs_types.specs.TypedGraph.{IsOf}
-use Rattle.hs_laws.proofs.Lists.{AllZip-append, Differ-apart, All-by_has, beside-has}
+use Rattle.hs_expr.proofs.Lists.{AllZip-append, Differ-apart, All-by_has, beside-has}
 
 -- The object at n is of the node's class.
 abbrev pub FitsNode : Metamodel → Graph → PatternNode → ℕ → Type 0

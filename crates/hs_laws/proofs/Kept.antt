@@ -1,5 +1,5 @@
 -- Matches and extensions in the graph after a step.
-use Rattle.std.proofs.Common.{ℕ, ◌+◌, ◌<◌, ◌≡◌, inl, inr, List, [], ◌∷◌, ◌++◌, true, false, not, ◌||◌, ◌&&◌, eqb, Option, Some, None, IsSomeAnd, refl, ap, subst}
+use Rattle.std.proofs.Common.{ℕ, ◌+◌, ◌<◌, ◌≡◌, inl, inr, List, [], ◌∷◌, ◌++◌, true, false, not, ◌||◌, ◌&&◌, eqb, Some, refl, ap, subst}
 use Rattle.std.specs.List.{All, AllZip, filter, list_any}
 use Rattle.std.proofs.lemmas.Bool.{both_ways, eqb-true, or_cases, or_from, and_right, and_parts}
 use Rattle.std.proofs.lemmas.List.Elements.{All-nil, All-cons, All-head, All-tail, All-append, All-filter}
@@ -18,7 +18,7 @@ use Rattle.hs_types.specs.declared.rule.Shape.{Shape}
 use Rattle.hs_types.specs.declared.rule.SlotKind.{SlotKind}
 use Rattle.hs_types.specs.declared.rule.SlotKind.TheVariants.{Attribute, Link, Container}
 use Rattle.hs_types.specs.Dangling.{NoneDangle}
-use Rattle.hs_types.specs.Lists.{has, Apart}
+use Rattle.hs_expr.specs.Lists.{has, Apart}
 use Rattle.hs_types.specs.Metamodel.{Conforms}
 use Rattle.hs_types.specs.Pattern.{is_kind, is_left, left_nodes, left_edges}
 use Rattle.hs_types.specs.PlainMatch.{image, IsImage, Extends}
@@ -26,8 +26,9 @@ use Rattle.hs_types.specs.RuleForm.{has_slot}
 use Rattle.hs_types.specs.Spares.{IsOld, MakesNone}
 use Rattle.hs_types.specs.Step.{is_to, new_edges, number_of, step}
 use Rattle.hs_types.specs.TypedGraph.{object_at, value_at, IsOf}
+use Rattle.hs_types.proofs.Lookups.{object_there}
 use Rattle.hs_laws.proofs.Images.{FitsNode, IsLeft, image-all}
-use Rattle.hs_laws.proofs.Lists.{All-both, AllZip-with, AllZip-items, AllZip-right}
+use Rattle.hs_expr.proofs.Lists.{All-both, AllZip-with, AllZip-items, AllZip-right}
 use Rattle.hs_laws.proofs.Lookups.{Stands-kept, Stands-old, edge_at-kept, edge-old, object-unmade, edge-unmade, value_at-kept}
 
 -- It is not dropped.
@@ -115,14 +116,6 @@ has_slot-all P (slot ∷ slots) n kind a h = elim (or_cases (eqb slot.node n && 
 pub unwritten_kind : (n : ℕ) (kind : SlotKind) (writes : List Write) → All (λ write. is_kind write.slot kind ≡ false) writes → list_any (is_to n kind) writes ≡ false
 unwritten_kind n kind [] a = refl
 unwritten_kind n kind (w ∷ ws) a = or_from (is_to n kind w) (list_any (is_to n kind) ws) (and_right (eqb w.object n) (is_kind w.slot kind) (All-head (λ write. is_kind write.slot kind ≡ false) w ws a)) (unwritten_kind n kind ws (All-tail (λ write. is_kind write.slot kind ≡ false) w ws a))
-
--- An object stands where one of a class stands.
-pub object_there : (m : Metamodel) (g : Graph) (class n : ℕ) → IsOf m g class n → (x : Object) × (object_at g n ≡ Some x)
-object_there m g class n h = go (object_at g n) refl h
-  where
-    go : (o : Option Object) → object_at g n ≡ o → IsSomeAnd o (λ o. Conforms m o.class class) → (x : Object) × (object_at g n ≡ Some x)
-    go None e h = absurd h
-    go (Some x) e h = (x, e)
 
 -- A slot of an image that stays keeps its value where it is not written.
 pub value-stays : (m : Metamodel) (g : Graph) (p : Plan) (nodes : List PatternNode) (images : List ℕ) (n : ℕ) (slot : SlotKind) → AllZip (FitsNode m g) (left_nodes nodes) images → Apart images p.drop_objects → IsLeft nodes n → list_any (is_to (image nodes images n) slot) p.writes ≡ false → value_at (step g p) (image nodes images n) slot ≡ value_at g (image nodes images n) slot

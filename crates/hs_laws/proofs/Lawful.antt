@@ -5,6 +5,7 @@ use Rattle.std.specs.Option.{option_map, unwrap_or}
 use Rattle.std.proofs.lemmas.Bool.{cases_lt}
 use Rattle.std.proofs.lemmas.List.{take-append-le, take_all}
 use Rattle.std.proofs.lemmas.List.Elements.{All-head, All-tail}
+use Rattle.hs_expr.proofs.Items.{slice_get-take}
 use Rattle.hs_types.specs.declared.entry.Cause.{Cause}
 use Rattle.hs_types.specs.declared.entry.Cause.TheVariants as cause
 use Rattle.hs_types.specs.declared.entry.Entry.{Entry}
@@ -26,7 +27,7 @@ use Rattle.hs_types.specs.RuleForm.{IsRule}
 use Rattle.hs_types.specs.Step.{step}
 use Rattle.hs_types.specs.TypedGraph.{IsTyped}
 use Rattle.hs_types.specs.ValidMatch.{IsValid}
-use Rattle.hs_laws.proofs.Lists.{slice_get-first, slice_get-last}
+use Rattle.hs_expr.proofs.Lists.{slice_get-first, slice_get-last}
 use Rattle.hs_laws.proofs.Planned.{IsTyped-applied}
 
 -- What an attempt that missed leaves.
@@ -38,13 +39,6 @@ after_try-missed rules g tried e = go (rule_of rules tried)
     go (Some rule) = rw e refl
 
 -- A list and its prefixes.
-pub slice_get-take : {A : Type 0} (xs : List A) (n i : ℕ) → i < n → slice_get (take n xs) i ≡ slice_get xs i
-slice_get-take [] zero i l = absurd (omega arith)
-slice_get-take [] (suc n) i l = refl
-slice_get-take (x ∷ xs) zero i l = absurd (omega arith)
-slice_get-take (x ∷ xs) (suc n) zero l = refl
-slice_get-take (x ∷ xs) (suc n) (suc i) l = slice_get-take xs n i (omega arith)
-
 pub slice_get-taken : {A : Type 0} (xs : List A) (n i : ℕ) → n ≤ i → slice_get (take n xs) i ≡ None
 slice_get-taken [] zero i l = refl
 slice_get-taken [] (suc n) i l = refl

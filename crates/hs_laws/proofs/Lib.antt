@@ -1,4 +1,3 @@
-pub mod Lists
 pub mod Lookups
 pub mod Images
 pub mod Values

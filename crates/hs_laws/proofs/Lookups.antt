@@ -16,11 +16,11 @@ use Rattle.hs_types.specs.declared.plan.Plan.{Plan}
 use Rattle.hs_types.specs.declared.plan.Write.{Write}
 use Rattle.hs_types.specs.declared.rule.SlotKind.{SlotKind}
 use Rattle.hs_types.specs.declared.rule.SlotKind.TheVariants.{Attribute, Link, Container}
-use Rattle.hs_types.specs.Lists.{has, Rise}
+use Rattle.hs_expr.specs.Lists.{has, Rise}
 use Rattle.hs_types.specs.Metamodel.{Conforms}
 use Rattle.hs_types.specs.TypedGraph.{object_at, edge_at, name_at, value_in, value_at, Stands, IsOf}
-use Rattle.hs_types.specs.Step.{is_to, written, rewritten, new_objects, new_edges, step}
-use Rattle.hs_laws.proofs.Lists.{find-passes, find-map, Rise_missing}
+use Rattle.hs_types.specs.Step.{is_to, slot_after, object_after, new_objects, new_edges, step}
+use Rattle.hs_expr.proofs.Lists.{find-passes, find-map, Rise_missing}
 
 -- What is found among those that are not dropped.
 pub find-kept : {A : Type 0} (f : A → ℕ) (drops : List ℕ) (xs : List A) (n : ℕ) → find (λ x. eqb (f x) n) (filter (λ x. not (has drops (f x))) xs) ≡ cond (has drops n) None (find (λ x. eqb (f x) n) xs)
@@ -37,12 +37,12 @@ find-kept f drops (x ∷ xs) n = elim (cases_Bool (eqb (f x) n)) [
 ]
 
 -- The object, and the edge, at a number after the step.
-pub object_at-step : (g : Graph) (p : Plan) (n : ℕ) → object_at (step g p) n ≡ option_or (option_map (rewritten p.writes) (cond (has p.drop_objects n) None (object_at g n))) (find (λ object. eqb object.number n) (new_objects g.next_object g.next_name p.make_objects))
+pub object_at-step : (g : Graph) (p : Plan) (n : ℕ) → object_at (step g p) n ≡ option_or (option_map (object_after p.writes) (cond (has p.drop_objects n) None (object_at g n))) (find (λ object. eqb object.number n) (new_objects g.next_object g.next_name p.make_objects))
 object_at-step g p n =
     let q : Object → Bool = λ o. eqb o.number n in
     let kept = filter (λ o. not (has p.drop_objects o.number)) g.objects in
     let made = new_objects g.next_object g.next_name p.make_objects in
-    find-append q (map (rewritten p.writes) kept) made ∙ ap (λ o. option_or o (find q made)) (find-map q (rewritten p.writes) kept ∙ ap (option_map (rewritten p.writes)) (find-kept (λ o. o.number) p.drop_objects g.objects n))
+    find-append q (map (object_after p.writes) kept) made ∙ ap (λ o. option_or o (find q made)) (find-map q (object_after p.writes) kept ∙ ap (option_map (object_after p.writes)) (find-kept (λ o. o.number) p.drop_objects g.objects n))
 
 pub edge_at-step : (g : Graph) (p : Plan) (n : ℕ) → edge_at (step g p) n ≡ option_or (cond (has p.drop_edges n) None (edge_at g n)) (find (λ edge. eqb edge.number n) (new_edges g.next_object g.next_edge p.make_edges))
 edge_at-step g p n =
@@ -52,12 +52,12 @@ edge_at-step g p n =
     find-append q kept made ∙ ap (λ o. option_or o (find q made)) (find-kept (λ e. e.number) p.drop_edges g.edges n)
 
 -- An object that is not dropped stays, with all but its values.
-pub object-kept : (P : Object → Type 0) (g : Graph) (p : Plan) → ((o : Object) → P o → P (rewritten p.writes o)) → (n : ℕ) → has p.drop_objects n ≡ false → IsSomeAnd (object_at g n) P → IsSomeAnd (object_at (step g p) n) P
+pub object-kept : (P : Object → Type 0) (g : Graph) (p : Plan) → ((o : Object) → P o → P (object_after p.writes o)) → (n : ℕ) → has p.drop_objects n ≡ false → IsSomeAnd (object_at g n) P → IsSomeAnd (object_at (step g p) n) P
 object-kept P g p f n d h =
     let made : Option Object = find (λ o. eqb o.number n) (new_objects g.next_object g.next_name p.make_objects) in
     subst (λ (o : Option Object). IsSomeAnd o P) (sym (object_at-step g p n)) (rw d (stays (object_at g n) made h))
   where
-    stays : (o made : Option Object) → IsSomeAnd o P → IsSomeAnd (option_or (option_map (rewritten p.writes) o) made) P
+    stays : (o made : Option Object) → IsSomeAnd o P → IsSomeAnd (option_or (option_map (object_after p.writes) o) made) P
     stays None made h = absurd h
     stays (Some x) made h = f x h
 
@@ -69,7 +69,7 @@ name_at-kept g p n name d h =
     let made : Option Object = find (λ o. eqb o.number n) (new_objects g.next_object g.next_name p.make_objects) in
     subst (λ (o : Option Object). option_map (λ object. object.name) o ≡ Some name) (sym (object_at-step g p n)) (rw d (stays (object_at g n) made h))
   where
-    stays : (o made : Option Object) → option_map (λ object. object.name) o ≡ Some name → option_map (λ object. object.name) (option_or (option_map (rewritten p.writes) o) made) ≡ Some name
+    stays : (o made : Option Object) → option_map (λ object. object.name) o ≡ Some name → option_map (λ object. object.name) (option_or (option_map (object_after p.writes) o) made) ≡ Some name
     stays None made h = absurd (cc)
     stays (Some x) made h = h
 
@@ -82,15 +82,15 @@ pub value_at-kept : (g : Graph) (p : Plan) (n : ℕ) (slot : SlotKind) (x : Obje
 value_at-kept g p n (Link r) x d h w = refl
 value_at-kept g p n Container x d h w = refl
 value_at-kept g p n (Attribute a) x d h w =
-    let at : object_at (step g p) n ≡ Some (rewritten p.writes x) = object_at-step g p n ∙ rw (d, h) refl in
+    let at : object_at (step g p) n ≡ Some (object_after p.writes x) = object_at-step g p n ∙ rw (d, h) refl in
     let same : x.number ≡ n = eqb-true x.number n (find-passes (λ o. eqb o.number n) g.objects x h) in
-    rw (at, h) (subst (λ (k : ℕ). value_in a (map (written p.writes k) x.slots) ≡ value_in a x.slots) (sym same) (in_slots x.slots))
+    rw (at, h) (subst (λ (k : ℕ). value_in a (map (slot_after p.writes k) x.slots) ≡ value_in a x.slots) (sym same) (in_slots x.slots))
   where
     unwritten : (ws : List Write) → list_any (is_to n (Attribute a)) ws ≡ false → find (is_to n (Attribute a)) ws ≡ None
     unwritten [] miss = refl
     unwritten (w ∷ ws) miss = let parts = or_parts (is_to n (Attribute a) w) (list_any (is_to n (Attribute a)) ws) miss in rw parts.0 (unwritten ws parts.1)
 
-    in_slots : (ss : List Slot) → value_in a (map (written p.writes n) ss) ≡ value_in a ss
+    in_slots : (ss : List Slot) → value_in a (map (slot_after p.writes n) ss) ≡ value_in a ss
     in_slots [] = refl
     in_slots (s ∷ ss) = elim (cases_Bool (eqb s.attribute a)) [
       | inl q ↦ let none : find (is_to n (Attribute s.attribute)) p.writes ≡ None = subst (λ (b : ℕ). find (is_to n (Attribute b)) p.writes ≡ None) (sym (eqb-true s.attribute a q)) (unwritten p.writes w) in rw (q, none) refl
@@ -114,7 +114,7 @@ Stands-old P g p n l h =
     let Q : Option Object → Type 0 = λ o. IsSomeAnd o (λ o. P o.class) in
     back (has p.drop_objects n) (object_at g n) (rw none at (subst Q (object_at-step g p n) h))
   where
-    back : (b : Bool) (o : Option Object) → IsSomeAnd (option_or (option_map (rewritten p.writes) (cond b None o)) None) (λ o. P o.class) → (b ≡ false) × IsSomeAnd o (λ o. P o.class)
+    back : (b : Bool) (o : Option Object) → IsSomeAnd (option_or (option_map (object_after p.writes) (cond b None o)) None) (λ o. P o.class) → (b ≡ false) × IsSomeAnd o (λ o. P o.class)
     back true o h = absurd h
     back false None h = absurd h
     back false (Some x) h = (refl, h)
@@ -143,7 +143,7 @@ object-unmade m g p class n none h =
       | inr e ↦ unmade (k + 1) (j + 1) os (All-tail (λ o. Conforms m o.class class → ⊥) o os a) (rw e at h)
     ]
 
-    back : (b : Bool) (o made : Option Object) → (IsSomeAnd made (λ o. Conforms m o.class class) → ⊥) → IsSomeAnd (option_or (option_map (rewritten p.writes) (cond b None o)) made) (λ o. Conforms m o.class class) → (b ≡ false) × IsSomeAnd o (λ o. Conforms m o.class class)
+    back : (b : Bool) (o made : Option Object) → (IsSomeAnd made (λ o. Conforms m o.class class) → ⊥) → IsSomeAnd (option_or (option_map (object_after p.writes) (cond b None o)) made) (λ o. Conforms m o.class class) → (b ≡ false) × IsSomeAnd o (λ o. Conforms m o.class class)
     back true o made miss h = absurd (miss h)
     back false None made miss h = absurd (miss h)
     back false (Some x) made miss h = (refl, h)

@@ -6,10 +6,10 @@ use Rattle.std.proofs.lemmas.Bool.{cases_Bool}
 use Rattle.std.proofs.lemmas.Int.Digits.{same_from_digits_of, first_digits_of}
 use Rattle.std.proofs.lemmas.List.Elements.{All-nil, All-cons, All-weaker, All-map, All-filter}
 use Rattle.hs_types.specs.declared.plan.MadeObject.{MadeObject}
-use Rattle.hs_types.specs.Lists.{Differ}
+use Rattle.hs_expr.specs.Lists.{Differ}
 use Rattle.hs_types.specs.Step.{new_objects}
 use Rattle.hs_types.specs.TypedGraph.{hash_name}
-use Rattle.hs_laws.proofs.Lists.{All-of_map, EachPair-append}
+use Rattle.hs_expr.proofs.Lists.{All-of_map, EachPair-append}
 
 unmapped : (xs ys : List ℕ) → map (λ d. 48 + d) xs ≡ map (λ d. 48 + d) ys → xs ≡ ys
 unmapped [] [] e = refl

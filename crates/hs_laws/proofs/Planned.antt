@@ -30,7 +30,7 @@ use Rattle.hs_types.specs.declared.rule.SetItem.{SetItem}
 use Rattle.hs_types.specs.declared.rule.SlotKind.TheVariants.{Attribute}
 use Rattle.hs_types.specs.Conditions.{AreFit, env_of}
 use Rattle.hs_types.specs.Copies.{Copy, copies_of, copy_env, images_of, nodes_of}
-use Rattle.hs_types.specs.Lists.{has}
+use Rattle.hs_expr.specs.Lists.{has}
 use Rattle.hs_types.specs.Metamodel.{Conforms, IsConcrete, IsMeta, FeatureFits, attributes_of, default_of, default_of_kind, feature_at, features_of, fits, is_of_type, target_of, type_of, type_of_kind}
 use Rattle.hs_types.specs.Pattern.{is_drop, is_left, is_make, made_edges, made_nodes, node_is}
 use Rattle.hs_types.specs.Plan.{CanBeMade, EndIs, SlotFits, copy_edges, copy_end, copy_objects, copy_writes, edges_for, end_of, made_slots, objects_for, plan_of, value_set, writes_of}
@@ -41,7 +41,7 @@ use Rattle.hs_types.specs.TypedGraph.{AreSlotsOf, IsTyped}
 use Rattle.hs_types.specs.ValidMatch.{IsValid}
 use Rattle.hs_laws.proofs.Classes.{GoesDown, Stands-down, conforms-down, feature-down}
 use Rattle.hs_laws.proofs.Images.{FitsNode, image-at, joined}
-use Rattle.hs_laws.proofs.Lists.{All-both, All-filter_map, All-find, All-flat_map, All-kept, find-passes, slice_get-append, slice_get-behind, slice_get-first, slice_get-last}
+use Rattle.hs_expr.proofs.Lists.{All-both, All-filter_map, All-find, All-flat_map, All-kept, find-passes, slice_get-append, slice_get-behind, slice_get-first, slice_get-last}
 use Rattle.hs_laws.proofs.Staying.{CopyIs, CopyStays, copies_are, copies_stay, kernel_stays}
 use Rattle.hs_laws.proofs.Typed.{Carries, IsTyped-step}
 

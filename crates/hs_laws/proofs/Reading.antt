@@ -9,7 +9,7 @@ use Rattle.hs_expr.specs.declared.expr.Expr.TheOpen.{Expr-F}
 use Rattle.hs_expr.specs.declared.expr.SlotRead.{SlotRead}
 use Rattle.hs_expr.specs.declared.value.Kind.{Kind}
 use Rattle.hs_expr.specs.declared.value.Kind.TheVariants as kind
-use Rattle.hs_expr.specs.Evaluation.{Scope, kind_in, kind_joined, kind_negated, kind_of_level, kind_opposite, reads_of, reads_of_level}
+use Rattle.hs_expr.specs.Evaluation.{Scope, kind_in, binary_kind, not_kind, kind_of_level, minus_kind, reads_of, reads_of_level}
 use Rattle.hs_types.specs.declared.meta.DataType.{DataType}
 use Rattle.hs_types.specs.declared.meta.Metamodel.{Metamodel}
 use Rattle.hs_types.specs.declared.rule.Mark.{Mark}
@@ -18,12 +18,12 @@ use Rattle.hs_types.specs.declared.rule.PatternNode.{PatternNode}
 use Rattle.hs_types.specs.declared.rule.Rule.{Rule}
 use Rattle.hs_types.specs.declared.rule.SetItem.{SetItem}
 use Rattle.hs_types.specs.declared.rule.SlotKind.TheVariants.{Attribute}
-use Rattle.hs_types.specs.Lists.{has}
+use Rattle.hs_expr.specs.Lists.{has}
 use Rattle.hs_types.specs.Metamodel.{attributes_of, features_of, kind_of_type, type_of}
 use Rattle.hs_types.specs.Pattern.{is_drop, is_left, node_is}
 use Rattle.hs_types.specs.RuleForm.{IsMulti, IsRule, SetFits, all_reads, has_slot, reads_in, scope_of, slot_kind}
 use Rattle.hs_laws.proofs.Images.{IsLeft}
-use Rattle.hs_laws.proofs.Lists.{All-flat_map, All-of_flat_map, All-both, All-front, All-rest_of, All-has, All-of_filter, slice_get-first}
+use Rattle.hs_expr.proofs.Lists.{All-flat_map, All-of_flat_map, All-both, All-front, All-rest_of, All-has, All-of_filter, slice_get-first}
 
 -- What comes of two steps comes of the first.
 pub and_then-some : {A B : Type 0} (f : A → Option B) (o : Option A) (y : B) → option_and_then f o ≡ Some y → (x : A) × (o ≡ Some x) × (f x ≡ Some y)
@@ -47,11 +47,11 @@ kinds-read scope = ind-Expr P (λ x y h. subst (λ (x : Expr-F Expr). P (roll-Ex
     go (Expr-F.Literal v) = from (Expr-F.Literal v) (λ k h. All-nil R)
     go (Expr-F.Slot read) = from (Expr-F.Slot read) (λ k h. All-cons R read [] (ap is_some h) (All-nil R))
     go (Expr-F.Param n) = from (Expr-F.Param n) (λ k h. All-nil R)
-    go (Expr-F.Not e) = from (Expr-F.Not e.0) (λ k h. let i = and_then-some kind_negated (kind_in scope e.0) k h in e.1 i.0 i.1)
-    go (Expr-F.Minus e) = from (Expr-F.Minus e.0) (λ k h. let i = and_then-some kind_opposite (kind_in scope e.0) k h in e.1 i.0 i.1)
+    go (Expr-F.Not e) = from (Expr-F.Not e.0) (λ k h. let i = and_then-some not_kind (kind_in scope e.0) k h in e.1 i.0 i.1)
+    go (Expr-F.Minus e) = from (Expr-F.Minus e.0) (λ k h. let i = and_then-some minus_kind (kind_in scope e.0) k h in e.1 i.0 i.1)
     go (Expr-F.Binary sign e f) = from (Expr-F.Binary sign e.0 f.0) (λ k h.
-        let i = and_then-some (λ x. option_and_then (kind_joined sign x) (kind_in scope f.0)) (kind_in scope e.0) k h in
-        let j = and_then-some (kind_joined sign i.0) (kind_in scope f.0) k i.2 in
+        let i = and_then-some (λ x. option_and_then (binary_kind sign x) (kind_in scope f.0)) (kind_in scope e.0) k h in
+        let j = and_then-some (binary_kind sign i.0) (kind_in scope f.0) k i.2 in
         All-append R (reads_of e.0) (reads_of f.0) (e.1 i.0 i.1) (f.1 j.0 j.1))
 
 -- A slot has a kind at a left node.

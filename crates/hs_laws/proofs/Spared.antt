@@ -25,10 +25,10 @@ use Rattle.hs_types.specs.declared.rule.Rule.{Rule}
 use Rattle.hs_types.specs.declared.rule.SetItem.{SetItem}
 use Rattle.hs_types.specs.declared.rule.Shape.{Shape}
 use Rattle.hs_types.specs.declared.rule.SlotKind.TheVariants.{Attribute}
-use Rattle.hs_types.specs.Arguments.{Follows, object_given}
+use Rattle.hs_types.specs.Arguments.{Follows, object_argument}
 use Rattle.hs_types.specs.Conditions.{AreFit, AreTrue, IsAbsent, IsPresent, env_of}
 use Rattle.hs_types.specs.Copies.{AreCopies, Copy, CopyFits, IsCopy, copies_from, copies_of, copy_env, images_of, nodes_of}
-use Rattle.hs_types.specs.Lists.{has, Apart}
+use Rattle.hs_expr.specs.Lists.{has, Apart}
 use Rattle.hs_types.specs.Metamodel.{attributes_of, default_of, fits}
 use Rattle.hs_types.specs.Pattern.{is_kind, is_make, left_nodes, no_shape, node_is, shape_of}
 use Rattle.hs_types.specs.Plan.{copy_objects, copy_writes, made_slots, objects_for, plan_of, value_set, writes_of}
@@ -40,7 +40,7 @@ use Rattle.hs_types.specs.TypedGraph.{name_at, value_at}
 use Rattle.hs_types.specs.ValidMatch.{all_dropped_edges, all_dropped_nodes}
 use Rattle.hs_laws.proofs.Images.{FitsNode, image-front, joined}
 use Rattle.hs_laws.proofs.Kept.{Extends-kept, Extends-old, Extends-unmade, NoneDangle-kept, Stays, has_slot-all, unwritten_kind, value-stays}
-use Rattle.hs_laws.proofs.Lists.{All-both, All-find, All-front, All-of_flat_map, All-of_map, All-rest_of, AllZip-with, filter_map-same, flat_map-same}
+use Rattle.hs_expr.proofs.Lists.{All-both, All-find, All-front, All-of_flat_map, All-of_map, All-rest_of, AllZip-with, filter_map-same, flat_map-same}
 use Rattle.hs_laws.proofs.Lookups.{name_at-kept}
 use Rattle.hs_laws.proofs.Reading.{ReadsKernel, ReadsMulti, kernel_read, multi_read}
 use Rattle.hs_laws.proofs.Values.{Agree, value_of-same}
@@ -232,7 +232,7 @@ pub IsSupported-kept : (m : Metamodel) (g : Graph) (p : Plan) (rule : Rule) (arg
 IsSupported-kept m g p rule args f supports w v l = record {
   valid = record {
     plain = Extends-kept m g p no_shape no_match rule.shape k stay (All-front (Stays p.drop_edges) f.edges es edges) h;
-    follows = AllZip-with (Stays p.drop_objects) (Follows g args) (Follows (step g p) args) (λ node n d i. named node n (object_given args node.name) d i) (left_nodes rule.shape.nodes) f.nodes stay v.valid.follows;
+    follows = AllZip-with (Stays p.drop_objects) (Follows g args) (Follows (step g p) args) (λ node n d i. named node n (object_argument args node.name) d i) (left_nodes rule.shape.nodes) f.nodes stay v.valid.follows;
     none_dangle = NoneDangle-kept (all_dropped_nodes rule f) (all_dropped_edges rule f) g p l.ends v.valid.none_dangle;
     wheres = AreTrue-same before after rule.wheres (wheres-same before after (λ n. refl) rule.wheres rule.sets agree) v.valid.wheres;
     sets_fit = AreFit-same m before after rule.sets (sets-same before after (λ n. refl) rule.wheres rule.sets agree) v.valid.sets_fit;

@@ -18,31 +18,31 @@ use Rattle.hs_types.specs.declared.plan.Write.{Write}
 use Rattle.hs_types.specs.declared.rule.SlotKind.{SlotKind}
 use Rattle.hs_types.specs.declared.rule.SlotKind.TheVariants.{Attribute}
 use Rattle.hs_types.specs.Dangling.{NoneDangle}
-use Rattle.hs_types.specs.Lists.{has, Differ, Rise}
+use Rattle.hs_expr.specs.Lists.{has, Differ, Rise}
 use Rattle.hs_types.specs.Metamodel.{Conforms, features_of, fits, target_of}
 use Rattle.hs_types.specs.Pattern.{is_kind}
 use Rattle.hs_types.specs.Plan.{CanBeMade, EndIs, SlotFits}
-use Rattle.hs_types.specs.Step.{is_to, new_edges, new_objects, number_of, rewritten, step, written}
+use Rattle.hs_types.specs.Step.{is_to, new_edges, new_objects, number_of, object_after, step, slot_after}
 use Rattle.hs_types.specs.TypedGraph.{AreSlotsOf, CanJoin, IsTyped, Stands, hash_name, object_at}
 use Rattle.hs_laws.proofs.Kept.{is_kind-same}
-use Rattle.hs_laws.proofs.Lists.{All-both, All-find, All-kept, Rise-append, Rise-filter, Rise_past, find-passes, map-append}
+use Rattle.hs_expr.proofs.Lists.{All-both, All-find, All-kept, Rise-append, Rise-filter, Rise_past, find-passes, map-append}
 use Rattle.hs_laws.proofs.Lookups.{Stands-kept, new_edges-rise, new_objects-rise, object_at-step}
 use Rattle.hs_laws.proofs.Names.{Differ-filter, names-below, names-differ}
 
-pub rewritten-same : {B : Type 0} (f : Object → B) (ws : List Write) → ((o : Object) → f (rewritten ws o) ≡ f o) → (os : List Object) → map f (map (rewritten ws) os) ≡ map f os
+pub rewritten-same : {B : Type 0} (f : Object → B) (ws : List Write) → ((o : Object) → f (object_after ws o) ≡ f o) → (os : List Object) → map f (map (object_after ws) os) ≡ map f os
 rewritten-same f ws same [] = refl
 rewritten-same f ws same (o ∷ os) = rw (same o, rewritten-same f ws same os) refl
 
-attributes_written : (ws : List Write) (n : ℕ) (ss : List Slot) → map (λ s. s.attribute) (map (written ws n) ss) ≡ map (λ s. s.attribute) ss
+attributes_written : (ws : List Write) (n : ℕ) (ss : List Slot) → map (λ s. s.attribute) (map (slot_after ws n) ss) ≡ map (λ s. s.attribute) ss
 attributes_written ws n [] = refl
 attributes_written ws n (s ∷ ss) = ap (λ l. s.attribute ∷ l) (attributes_written ws n ss)
 
--- The slots of a rewritten object are those of its class.
-slots_written : (m : Metamodel) (ws : List Write) (o : Object) → All (λ w. SlotFits m w.slot w.value) ws → AreSlotsOf m o.class o.slots → AreSlotsOf m o.class (map (written ws o.number) o.slots)
+-- The slots of an object after the writes are those of its class.
+slots_written : (m : Metamodel) (ws : List Write) (o : Object) → All (λ w. SlotFits m w.slot w.value) ws → AreSlotsOf m o.class o.slots → AreSlotsOf m o.class (map (slot_after ws o.number) o.slots)
 slots_written m ws o fit h = (
   h.0,
   attributes_written ws o.number o.slots ∙ h.1,
-  All-map V (written ws o.number) o.slots (All-weaker V (λ s. V (written ws o.number s)) (λ s i. value_fits s (find (is_to o.number (Attribute s.attribute)) ws) refl i) o.slots h.2),
+  All-map V (slot_after ws o.number) o.slots (All-weaker V (λ s. V (slot_after ws o.number s)) (λ s i. value_fits s (find (is_to o.number (Attribute s.attribute)) ws) refl i) o.slots h.2),
 )
   where
     V : Slot → Type 0
@@ -110,8 +110,8 @@ IsTyped-step m g p t f = record {
   objects_rise = subst (λ (l : List ℕ). Rise 0 l (g.next_object + length p.make_objects)) (sym numbers) (Rise-append 0 (map (λ o. o.number) kept) g.next_object (map (λ o. o.number) made) (g.next_object + length p.make_objects) (Rise-filter (λ o. o.number) (λ o. not (has p.drop_objects o.number)) 0 g.objects g.next_object t.objects_rise) (new_objects-rise g.next_object g.next_name p.make_objects));
   edges_rise = subst (λ (l : List ℕ). Rise 0 l (g.next_edge + length p.make_edges)) (sym (map-append (λ e. e.number) kept_edges (new_edges g.next_object g.next_edge p.make_edges))) (Rise-append 0 (map (λ e. e.number) kept_edges) g.next_edge (map (λ e. e.number) (new_edges g.next_object g.next_edge p.make_edges)) (g.next_edge + length p.make_edges) (Rise-filter (λ e. e.number) (λ e. not (has p.drop_edges e.number)) 0 g.edges g.next_edge t.edges_rise) (new_edges-rise g.next_object g.next_edge p.make_edges));
   names_differ = subst Differ (sym names) (names-differ (map (λ o. o.name) kept) g.next_object g.next_name p.make_objects (Differ-filter (λ o. o.name) (λ o. not (has p.drop_objects o.number)) g.objects t.names_differ) (All-map N (λ o. o.name) kept (All-kept B B (λ o. not (has p.drop_objects o.number)) g.objects (λ o q h. h) t.names_below)));
-  names_below = All-append C (map (rewritten p.writes) kept) made (All-map C (rewritten p.writes) kept (All-kept B C (λ o. not (has p.drop_objects o.number)) g.objects (λ o q h k e. let less : k < g.next_name = h k e in omega arith) t.names_below)) (names-below g.next_object g.next_name p.make_objects);
-  objects_fit = All-append O (map (rewritten p.writes) kept) made (All-map O (rewritten p.writes) kept (All-kept O (λ o. O (rewritten p.writes o)) (λ o. not (has p.drop_objects o.number)) g.objects (λ o q h. slots_written m p.writes o f.values_fit h) t.objects_fit)) (made_fit m g.next_object g.next_name p.make_objects f.objects_fit);
+  names_below = All-append C (map (object_after p.writes) kept) made (All-map C (object_after p.writes) kept (All-kept B C (λ o. not (has p.drop_objects o.number)) g.objects (λ o q h k e. let less : k < g.next_name = h k e in omega arith) t.names_below)) (names-below g.next_object g.next_name p.make_objects);
+  objects_fit = All-append O (map (object_after p.writes) kept) made (All-map O (object_after p.writes) kept (All-kept O (λ o. O (object_after p.writes o)) (λ o. not (has p.drop_objects o.number)) g.objects (λ o q h. slots_written m p.writes o f.values_fit h) t.objects_fit)) (made_fit m g.next_object g.next_name p.make_objects f.objects_fit);
   edges_fit = All-append E kept_edges (new_edges g.next_object g.next_edge p.make_edges) (All-kept (λ e. D e × F e) E (λ e. not (has p.drop_edges e.number)) g.edges (λ e q h. edge_kept m g p e (not-true (has p.drop_edges e.number) q) h.0 h.1) (All-both D F g.edges f.none_dangle t.edges_fit)) (edges_made m g p t g.next_edge p.make_edges f.edges_fit);
 }
   where
@@ -145,8 +145,8 @@ IsTyped-step m g p t f = record {
     kept_edges : List Edge
     kept_edges = filter (λ e. not (has p.drop_edges e.number)) g.edges
 
-    numbers : map (λ o. o.number) (map (rewritten p.writes) kept ++ made) ≡ map (λ o. o.number) kept ++ map (λ o. o.number) made
-    numbers = map-append (λ o. o.number) (map (rewritten p.writes) kept) made ∙ ap (λ (l : List ℕ). l ++ map (λ o. o.number) made) (rewritten-same (λ o. o.number) p.writes (λ o. refl) kept)
+    numbers : map (λ o. o.number) (map (object_after p.writes) kept ++ made) ≡ map (λ o. o.number) kept ++ map (λ o. o.number) made
+    numbers = map-append (λ o. o.number) (map (object_after p.writes) kept) made ∙ ap (λ (l : List ℕ). l ++ map (λ o. o.number) made) (rewritten-same (λ o. o.number) p.writes (λ o. refl) kept)
 
-    names : map (λ o. o.name) (map (rewritten p.writes) kept ++ made) ≡ map (λ o. o.name) kept ++ map (λ o. o.name) made
-    names = map-append (λ o. o.name) (map (rewritten p.writes) kept) made ∙ ap (λ (l : List (List ℕ)). l ++ map (λ o. o.name) made) (rewritten-same (λ o. o.name) p.writes (λ o. refl) kept)
+    names : map (λ o. o.name) (map (object_after p.writes) kept ++ made) ≡ map (λ o. o.name) kept ++ map (λ o. o.name) made
+    names = map-append (λ o. o.name) (map (object_after p.writes) kept) made ∙ ap (λ (l : List (List ℕ)). l ++ map (λ o. o.name) made) (rewritten-same (λ o. o.name) p.writes (λ o. refl) kept)

@@ -1,6 +1,6 @@
 ghost use Rattle.std.specs.Prelude.{◌≡◌, ℕ, true};
 ghost use Rattle.hs_types.specs.declared.meta.Metamodel.{Metamodel};
-ghost use Rattle.hs_types.specs.Lists.{has};
+ghost use Rattle.hs_expr.specs.Lists.{has};
 ghost use Rattle.hs_types.specs.Metamodel.{Conforms, IsMeta, attributes_of, features_of};
 
 /// Conformance is reflexive and transitive, and a class has the features and the attributes of each

@@ -5,7 +5,8 @@ ghost use Rattle.hs_types.specs.declared.matching.Match.{Match};
 ghost use Rattle.hs_types.specs.declared.meta.Metamodel.{Metamodel};
 ghost use Rattle.hs_types.specs.declared.request.Args.{Args};
 ghost use Rattle.hs_types.specs.declared.rule.Rule.{Rule};
-ghost use Rattle.hs_types.specs.MatchOrder.{IsBefore, IsEarlier};
+ghost use Rattle.hs_expr.specs.Lexicographic.{IsBefore};
+ghost use Rattle.hs_types.specs.MatchOrder.{IsEarlier};
 ghost use Rattle.hs_types.specs.PlainMatch.{kernel_of};
 ghost use Rattle.hs_types.specs.ValidMatch.{IsFirst, IsLeast, IsValid};
 

@@ -10,12 +10,12 @@ ghost use Rattle.hs_types.specs.declared.request.Args.{Args};
 ghost use Rattle.hs_types.specs.declared.rule.Rule.{Rule};
 ghost use Rattle.hs_types.specs.declared.rule.SlotKind.{SlotKind};
 ghost use Rattle.hs_types.specs.Dangling.{NoneDangle};
-ghost use Rattle.hs_types.specs.Lists.{has};
+ghost use Rattle.hs_expr.specs.Lists.{has};
 ghost use Rattle.hs_types.specs.Metamodel.{IsMeta};
 ghost use Rattle.hs_types.specs.Pattern.{is_drop};
 ghost use Rattle.hs_types.specs.Plan.{Fits, plan_of};
 ghost use Rattle.hs_types.specs.RuleForm.{IsRule};
-ghost use Rattle.hs_types.specs.Step.{is_to, rewritten, step};
+ghost use Rattle.hs_types.specs.Step.{is_to, object_after, step};
 ghost use Rattle.hs_types.specs.TypedGraph.{IsTyped, edge_at, object_at, value_at};
 ghost use Rattle.hs_types.specs.ValidMatch.{IsValid, all_dropped_edges, all_dropped_nodes};
 
@@ -46,7 +46,7 @@ pub fn plans_fit()
 pub fn steps_change_what_they_name()
     ensures objects_stay { (g : Graph) (plan : Plan) (n : ℕ) (x : Object)
         → has plan.drop_objects n ≡ false → object_at g n ≡ Some x
-        → object_at (step g plan) n ≡ Some (rewritten plan.writes x) }
+        → object_at (step g plan) n ≡ Some (object_after plan.writes x) }
     ensures slots_stay { (g : Graph) (plan : Plan) (n : ℕ) (slot : SlotKind) (x : Object)
         → has plan.drop_objects n ≡ false → object_at g n ≡ Some x
         → list_any (is_to n slot) plan.writes ≡ false
@@ -61,7 +61,7 @@ pub fn steps_change_what_they_name()
     ensures no_object_comes { (g : Graph) (plan : Plan) (n : ℕ) (y : Object) → n < g.next_object
         → object_at (step g plan) n ≡ Some y
         → (x : Object) × (object_at g n ≡ Some x) × (has plan.drop_objects n ≡ false)
-        × (y ≡ rewritten plan.writes x) }
+        × (y ≡ object_after plan.writes x) }
     ensures no_edge_comes { (g : Graph) (plan : Plan) (n : ℕ) (e : Edge) → n < g.next_edge
         → edge_at (step g plan) n ≡ Some e → edge_at g n ≡ Some e }
 {}

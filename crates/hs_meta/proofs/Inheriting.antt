@@ -3,7 +3,7 @@ use Rattle.std.proofs.Common.{ℕ, ◌≡◌, ◌&&◌, ◌||◌, ◌++◌, List
 use Rattle.std.proofs.lemmas.Bool.{eqb-true}
 use Rattle.std.proofs.lemmas.List.Folds.{list_any-append}
 use Rattle.std.specs.List.{filter}
-use Rattle.hs_types.specs.Lists.{each_once, has}
+use Rattle.hs_expr.specs.Lists.{each_once, has}
 use Rattle.hs_meta.specs.Inheriting.{with_further}
 
 -- What passes both tests.

@@ -1,35 +1,15 @@
 -- Items of lists: what holds of each, what differs, and at which places they stand.
-use Rattle.std.proofs.Common.{ℕ, zero, suc, ◌+◌, ◌<◌, ◌≤◌, ◌≡◌, ◌⊎◌, ◌||◌, ◌++◌, List, [], ◌∷◌, Bool, true, false, cond, not, eqb, ltb, map, length, take, get_or, slice_get, Option, Some, None, IsSomeAnd, is_some, refl, ap, sym, ◌∙◌, subst, arith, inl, inr, add-zero}
+use Rattle.std.proofs.Common.{ℕ, zero, suc, ◌+◌, ◌<◌, ◌≤◌, ◌≡◌, ◌⊎◌, ◌++◌, List, [], ◌∷◌, Bool, true, false, cond, not, eqb, map, length, get_or, slice_get, Some, refl, ap, sym, ◌∙◌, arith, inl, inr, add-zero}
 use Rattle.std.proofs.lemmas.Bool.{false≢true, eq-eqb, eqb-true, eqb-false, ne_eqb, not-true, or_cases, or_left, or_parts, or_right}
-use Rattle.std.proofs.lemmas.Bool.Decides.{nat_tests}
-use Rattle.std.proofs.lemmas.List.Elements.{All-append, All-cons, All-filter, All-head, All-nil, All-tail, All-weaker, filter_passes}
+use Rattle.std.proofs.lemmas.List.Elements.{All-cons, All-filter, All-head, All-nil, All-tail, All-weaker, filter_passes}
 use Rattle.std.proofs.lemmas.List.Sums.{count_by-le-length, length-filter}
-use Rattle.std.proofs.lemmas.Option.{get_or_from_slice_get, slice_get-get_or, slice_get_within}
-use Rattle.std.specs.List.{All, AllPairs, filter, flat_map, list_any, position, position_or_len, range_with_len}
+use Rattle.std.specs.List.{All, AllPairs, filter, flat_map, range_with_len}
 use Rattle.hs_expr.specs.Verdict.{each_from}
-use Rattle.hs_types.specs.Lists.{Differ, EachPair, each_once, has, places_from}
-
--- An item of a list has what all items have.
-pub All-at : {A : Type 0} (P : A → Type 0) (xs : List A) (i : ℕ) (x : A) → All P xs → slice_get xs i ≡ Some x → P x
-All-at P xs i x a at = subst P (get_or_from_slice_get xs i x x at) (a i x (slice_get_within xs i x at))
-
--- All items have what each has at its place.
-pub All-from : {A : Type 0} (P : A → Type 0) (xs : List A) → ((i : ℕ) (x : A) → slice_get xs i ≡ Some x → P x) → All P xs
-All-from P xs h = λ k d low. h k (get_or xs k d) (slice_get-get_or xs k d low)
-
--- Where the fact holds of an item, there is one.
-pub item_at : {A : Type 0} (P : A → Type 0) (found : Option A) → IsSomeAnd found P → (x : A) × (found ≡ Some x) × P x
-item_at P None h = absurd h
-item_at P (Some x) h = (x, refl, h)
+use Rattle.hs_expr.specs.Lists.{Differ, EachPair, each_once, has, places_from}
+use Rattle.hs_expr.proofs.Items.{has-append, has-filter, has-kept}
+use Rattle.hs_expr.proofs.Lists.{All-has}
 
 -- ---- lists that are made item by item
-
-pub All-each_from : {A B : Type 0} (P : B → Type 0) (finds : ℕ → A → List B) (n : ℕ) (xs : List A) → ((i : ℕ) (x : A) → slice_get xs i ≡ Some x → All P (finds (n + i) x)) → All P (each_from finds n xs)
-All-each_from P finds n [] h = All-nil P
-All-each_from P finds n (x ∷ xs) h =
-    All-append P (finds n x) (each_from finds (n + 1) xs)
-    (subst (λ k. All P (finds k x)) (add-zero n) (h 0 x refl))
-    (All-each_from P finds (n + 1) xs (λ i y at. subst (λ k. All P (finds k y)) (let e : n + suc i ≡ n + 1 + i = omega arith in e) (h (suc i) y at)))
 
 pub length-each_one : {A B : Type 0} (make : ℕ → A → B) (n : ℕ) (xs : List A) → length (each_from (λ k x. make k x ∷ []) n xs) ≡ length xs
 length-each_one make n [] = refl
@@ -50,28 +30,6 @@ map-each_one f g make n (x ∷ xs) h = ap (λ y. y ∷ map f (each_from (λ k x.
 
 -- ---- items that differ
 
--- No item stands at two places.
-pub Differ-from : {A : Type 0} (xs : List A) → ((i j : ℕ) (x y : A) → i < j → slice_get xs i ≡ Some x → slice_get xs j ≡ Some y → x ≡ y → ⊥) → Differ xs
-Differ-from [] h = tt
-Differ-from {A} (x ∷ xs) h = (
-  All-from (λ (y : A). x ≡ y → ⊥) xs (λ j y at. h 0 (suc j) x y (omega arith) refl at),
-  Differ-from xs (λ i j y z low at_i at_j. h (suc i) (suc j) y z (omega arith) at_i at_j),
-)
-
-pub Differ-at : {A : Type 0} (xs : List A) → Differ xs → (i j : ℕ) (x y : A) → i < j → slice_get xs i ≡ Some x → slice_get xs j ≡ Some y → x ≡ y → ⊥
-Differ-at [] d i j x y low at_i at_j same = cc
-Differ-at {A} (z ∷ xs) d zero zero x y low at_i at_j same = absurd (omega arith)
-Differ-at {A} (z ∷ xs) d zero (suc j) x y low at_i at_j same = All-at (λ (u : A). z ≡ u → ⊥) xs j y d.0 at_j (let e : z ≡ x = cc in e ∙ same)
-Differ-at {A} (z ∷ xs) d (suc i) zero x y low at_i at_j same = absurd (omega arith)
-Differ-at {A} (z ∷ xs) d (suc i) (suc j) x y low at_i at_j same = Differ-at xs d.1 i j x y (omega arith) at_i at_j same
-
-pub EachPair-append : {A : Type 0} (R : A → A → Type 0) (xs ys : List A) → EachPair R xs → EachPair R ys → All (λ x. All (R x) ys) xs → EachPair R (xs ++ ys)
-EachPair-append R [] ys a b h = b
-EachPair-append {A} R (x ∷ xs) ys a b h = (
-  All-append (R x) xs ys a.0 (All-head (λ (x : A). All (R x) ys) x xs h),
-  EachPair-append R xs ys a.1 b (All-tail (λ (x : A). All (R x) ys) x xs h),
-)
-
 pub AllPairs-from : {A : Type 0} (R : A → A → Type 0) (xs : List A) → EachPair R xs → AllPairs R xs
 AllPairs-from R [] e = λ i j d a b. absurd (omega arith)
 AllPairs-from R (x ∷ xs) e = λ i j d a b. pair_at R x xs e (AllPairs-from R xs e.1) i j d a b where
@@ -82,58 +40,12 @@ AllPairs-from R (x ∷ xs) e = λ i j d a b. pair_at R x xs e (AllPairs-from R x
 
 -- ---- numbers among others
 
--- All numbers have what each number has that is among them.
-pub All-from_has : (P : ℕ → Type 0) (ns : List ℕ) → ((n : ℕ) → has ns n ≡ true → P n) → All P ns
-All-from_has P [] h = All-nil P
-All-from_has P (n ∷ ns) h = All-cons P n ns (h n (or_left (eqb n n) (has ns n) (eq-eqb n n refl))) (All-from_has P ns (λ k e. h k (or_right (eqb k n) (has ns k) e)))
-
-pub All-at_has : (P : ℕ → Type 0) (ns : List ℕ) (n : ℕ) → All P ns → has ns n ≡ true → P n
-All-at_has P [] n a e = absurd (false≢true e)
-All-at_has P (m ∷ ns) n a e = elim (or_cases (eqb n m) (has ns n) e) [
-  | inl same ↦ subst P (sym (eqb-true n m same)) (All-head P m ns a)
-  | inr later ↦ All-at_has P ns n (All-tail P m ns a) later
-]
-
-pub has-append : (ms ns : List ℕ) (n : ℕ) → has (ms ++ ns) n ≡ (has ms n || has ns n)
-has-append [] ns n = refl
-has-append (m ∷ ms) ns n = ap (λ b. eqb n m || b) (has-append ms ns n) ∙ or_assoc (eqb n m) (has ms n) (has ns n)
-  where
-    or_assoc : (a b c : Bool) → (a || (b || c)) ≡ ((a || b) || c)
-    or_assoc true b c = refl
-    or_assoc false b c = refl
-
-pub has_at : (ns : List ℕ) (i n : ℕ) → slice_get ns i ≡ Some n → has ns n ≡ true
-has_at [] i n at = cc
-has_at (m ∷ ns) zero n at = let same : m ≡ n = cc in or_left (eqb n m) (has ns n) (eq-eqb n m (sym same))
-has_at (m ∷ ns) (suc i) n at = or_right (eqb n m) (has ns n) (has_at ns i n at)
-
-has-filter : (p : ℕ → Bool) (ns : List ℕ) (n : ℕ) → has (filter p ns) n ≡ true → (has ns n ≡ true) × (p n ≡ true)
-has-filter p [] n e = absurd (false≢true e)
-has-filter p (m ∷ ns) n e = go (p m) refl e (has-filter p ns n)
-  where
-    go : (b : Bool) → p m ≡ b → has (cond b (m ∷ filter p ns) (filter p ns)) n ≡ true → (has (filter p ns) n ≡ true → (has ns n ≡ true) × (p n ≡ true)) → (has (m ∷ ns) n ≡ true) × (p n ≡ true)
-    go true is e later = elim (or_cases (eqb n m) (has (filter p ns) n) e) [
-      | inl same ↦ (or_left (eqb n m) (has ns n) same, ap p (eqb-true n m same) ∙ is)
-      | inr there ↦ (or_right (eqb n m) (has ns n) (later there).0, (later there).1)
-    ]
-    go false is e later = (or_right (eqb n m) (has ns n) (later e).0, (later e).1)
-
-has-kept : (p : ℕ → Bool) (ns : List ℕ) (n : ℕ) → has ns n ≡ true → p n ≡ true → has (filter p ns) n ≡ true
-has-kept p [] n e h = e
-has-kept p (m ∷ ns) n e h = go (p m) refl (or_cases (eqb n m) (has ns n) e) (λ there. has-kept p ns n there h)
-  where
-    go : (b : Bool) → p m ≡ b → (eqb n m ≡ true) ⊎ (has ns n ≡ true) → (has ns n ≡ true → has (filter p ns) n ≡ true) → has (cond b (m ∷ filter p ns) (filter p ns)) n ≡ true
-    go true is (inl same) later = or_left (eqb n m) (has (filter p ns) n) same
-    go true is (inr there) later = or_right (eqb n m) (has (filter p ns) n) (later there)
-    go false is (inl same) later = absurd (false≢true (sym is ∙ ap p (sym (eqb-true n m same)) ∙ h))
-    go false is (inr there) later = later there
-
 apart : (n : ℕ) (ns : List ℕ) → has ns n ≡ false → All (λ k. n ≡ k → ⊥) ns
 apart n [] e = All-nil (λ k. n ≡ k → ⊥)
 apart n (m ∷ ns) e = let parts = or_parts (eqb n m) (has ns n) e in All-cons (λ k. n ≡ k → ⊥) m ns (eqb-false n m parts.0) (apart n ns parts.1)
 
 absent : (n : ℕ) (ns : List ℕ) → All (λ k. n ≡ k → ⊥) ns → (k : ℕ) → has ns k ≡ true → not (eqb k n) ≡ true
-absent n ns a k e = ap not (ne_eqb k n (λ same. All-at_has (λ k. n ≡ k → ⊥) ns k a e (sym same)))
+absent n ns a k e = ap not (ne_eqb k n (λ same. All-has (λ k. n ≡ k → ⊥) ns k a e (sym same)))
 
 pub Differ-filter : (p : ℕ → Bool) (ns : List ℕ) → Differ ns → Differ (filter p ns)
 Differ-filter p [] d = tt
@@ -261,32 +173,3 @@ length-places n t (x ∷ xs) =
     ]
 
 -- ---- first places
-
-first_below : (b : Bool) (n len : ℕ) (any : Bool) → ltb n len ≡ any → ltb (cond (not b) (1 + n) 0) (suc len) ≡ (b || any)
-first_below true n len any e = grind (arith, nat_tests)
-first_below false n len any e = sym (sym e ∙ grind (arith, nat_tests))
-
-below_any : {A : Type 0} (p : A → Bool) (xs : List A) → ltb (position_or_len p xs) (length xs) ≡ list_any p xs
-below_any p [] = refl
-below_any p (x ∷ xs) = first_below (p x) (position_or_len p xs) (length xs) (list_any p xs) (below_any p xs)
-
-is_some-cond : {A : Type 0} (b : Bool) (x : A) → is_some (cond b (Some x) None) ≡ b
-is_some-cond true x = refl
-is_some-cond false x = refl
-
--- There is a first place exactly where an item passes.
-pub is_some-position : {A : Type 0} (p : A → Bool) (xs : List A) → is_some (position p xs) ≡ list_any p xs
-is_some-position p xs = is_some-cond (ltb (position_or_len p xs) (length xs)) (position_or_len p xs) ∙ below_any p xs
-
--- An item before a place that no item before passes doesn't pass.
-pub none_before : {A : Type 0} (p : A → Bool) (xs : List A) (j i : ℕ) (x : A) → list_any p (take j xs) ≡ false → i < j → slice_get xs i ≡ Some x → p x ≡ false
-none_before p [] j i x none low at = cc
-none_before p (y ∷ xs) zero i x none low at = absurd (omega arith)
-none_before p (y ∷ xs) (suc j) zero x none low at = let same : x ≡ y = cc in ap p same ∙ (or_parts (p y) (list_any p (take j xs)) none).0
-none_before p (y ∷ xs) (suc j) (suc i) x none low at = none_before p xs j i x (or_parts (p y) (list_any p (take j xs)) none).1 (omega arith) at
-
--- An item that passes.
-pub any_at : {A : Type 0} (p : A → Bool) (xs : List A) (i : ℕ) (x : A) → slice_get xs i ≡ Some x → p x ≡ true → list_any p xs ≡ true
-any_at p [] i x at is = cc
-any_at p (y ∷ xs) zero x at is = let same : y ≡ x = cc in or_left (p y) (list_any p xs) (ap p same ∙ is)
-any_at p (y ∷ xs) (suc i) x at is = or_right (p y) (list_any p xs) (any_at p xs i x at is)

@@ -1,6 +1,5 @@
-pub mod Answers
 pub mod Rowed
-pub mod Below
+pub mod WrittenSupers
 pub mod Inheriting
 pub mod Ranked
 pub mod Places

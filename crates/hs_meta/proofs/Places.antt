@@ -8,9 +8,9 @@ use Rattle.std.proofs.lemmas.List.Sums.{prefix_len-le-length}
 use Rattle.std.proofs.lemmas.Option.{get_or_from_slice_get, slice_get_within}
 use Rattle.std.proofs.lemmas.Slice.Eq.{bytes_eq-Decides}
 use Rattle.std.specs.List.{position, position_or_len}
-use Rattle.hs_types.specs.Lists.{same_text}
+use Rattle.hs_expr.specs.Lists.{same_text}
 use Rattle.hs_meta.specs.declared.raw.RawClass.{RawClass}
-use Rattle.hs_meta.specs.Names.{class_named}
+use Rattle.hs_meta.specs.Names.{raw_class_number}
 
 -- The first place, or else the second.
 abbrev or_else : Option ℕ → Option ℕ → Option ℕ
@@ -37,33 +37,33 @@ taken (Some k) false n h = refl
 taken None true n h = refl
 taken None false n h = refl
 
-same_name : (text name : List ℕ) (classes : List RawClass) (b : Bool) → is_some (class_named classes text) ≡ b → same_text text name ≡ true → is_some (class_named classes name) ≡ b
-same_name text name classes b known e = ap (λ t. is_some (class_named classes t)) (sym ((bytes_eq-Decides text name).0 e)) ∙ known
+same_name : (text name : List ℕ) (classes : List RawClass) (b : Bool) → is_some (raw_class_number classes text) ≡ b → same_text text name ≡ true → is_some (raw_class_number classes name) ≡ b
+same_name text name classes b known e = ap (λ t. is_some (raw_class_number classes t)) (sym ((bytes_eq-Decides text name).0 e)) ∙ known
 
 -- A class whose name was there before changes nothing.
-class_named-known : (classes : List RawClass) (class : RawClass) (name : List ℕ) → is_some (class_named classes class.name) ≡ true → class_named (classes ++ class ∷ []) name ≡ class_named classes name
-class_named-known classes class name known =
+raw_class_number-known : (classes : List RawClass) (class : RawClass) (name : List ℕ) → is_some (raw_class_number classes class.name) ≡ true → raw_class_number (classes ++ class ∷ []) name ≡ raw_class_number classes name
+raw_class_number-known classes class name known =
     position_push (λ (other : RawClass). same_text other.name name) classes class
-    ∙ kept (class_named classes name) (same_text class.name name) (length classes) (same_name class.name name classes true known)
+    ∙ kept (raw_class_number classes name) (same_text class.name name) (length classes) (same_name class.name name classes true known)
 
 -- A class with a new name has it.
-class_named-new : (classes : List RawClass) (class : RawClass) (name : List ℕ) → is_some (class_named classes class.name) ≡ false →
-    class_named (classes ++ class ∷ []) name ≡ cond (same_text class.name name) (Some (length classes)) (class_named classes name)
-class_named-new classes class name known =
+raw_class_number-new : (classes : List RawClass) (class : RawClass) (name : List ℕ) → is_some (raw_class_number classes class.name) ≡ false →
+    raw_class_number (classes ++ class ∷ []) name ≡ cond (same_text class.name name) (Some (length classes)) (raw_class_number classes name)
+raw_class_number-new classes class name known =
     position_push (λ (other : RawClass). same_text other.name name) classes class
-    ∙ taken (class_named classes name) (same_text class.name name) (length classes) (same_name class.name name classes false known)
+    ∙ taken (raw_class_number classes name) (same_text class.name name) (length classes) (same_name class.name name classes false known)
 
 one_more : (classes : List RawClass) (i : ℕ) (class : RawClass) → slice_get classes i ≡ Some class → take (i + 1) classes ≡ take i classes ++ class ∷ []
 one_more classes i class at =
     take_more classes i class (slice_get_within classes i class at) ∙ ap (λ x. take i classes ++ x ∷ []) (get_or_from_slice_get classes i class class at)
 
-pub place_kept : (classes : List RawClass) (i : ℕ) (class : RawClass) (name : List ℕ) → slice_get classes i ≡ Some class → is_some (class_named (take i classes) class.name) ≡ true →
-    class_named (take (i + 1) classes) name ≡ class_named (take i classes) name
-place_kept classes i class name at known = ap (λ cs. class_named cs name) (one_more classes i class at) ∙ class_named-known (take i classes) class name known
+pub place_kept : (classes : List RawClass) (i : ℕ) (class : RawClass) (name : List ℕ) → slice_get classes i ≡ Some class → is_some (raw_class_number (take i classes) class.name) ≡ true →
+    raw_class_number (take (i + 1) classes) name ≡ raw_class_number (take i classes) name
+place_kept classes i class name at known = ap (λ cs. raw_class_number cs name) (one_more classes i class at) ∙ raw_class_number-known (take i classes) class name known
 
-pub place_new : (classes : List RawClass) (i : ℕ) (class : RawClass) (name : List ℕ) → slice_get classes i ≡ Some class → is_some (class_named (take i classes) class.name) ≡ false →
-    class_named (take (i + 1) classes) name ≡ cond (same_text class.name name) (Some i) (class_named (take i classes) name)
+pub place_new : (classes : List RawClass) (i : ℕ) (class : RawClass) (name : List ℕ) → slice_get classes i ≡ Some class → is_some (raw_class_number (take i classes) class.name) ≡ false →
+    raw_class_number (take (i + 1) classes) name ≡ cond (same_text class.name name) (Some i) (raw_class_number (take i classes) name)
 place_new classes i class name at new =
     let within = slice_get_within classes i class at in
-    ap (λ cs. class_named cs name) (one_more classes i class at) ∙ class_named-new (take i classes) class name new
-    ∙ ap (λ n. cond (same_text class.name name) (Some n) (class_named (take i classes) name)) (length-take-le i classes (omega arith))
+    ap (λ cs. raw_class_number cs name) (one_more classes i class at) ∙ raw_class_number-new (take i classes) class name new
+    ∙ ap (λ n. cond (same_text class.name name) (Some n) (raw_class_number (take i classes) name)) (length-take-le i classes (omega arith))

@@ -1,17 +1,15 @@
 -- Classes in the order of their ranks, each after its supertypes.
 use Rattle.std.proofs.Common.{ℕ, zero, suc, ◌+◌, ◌<◌, ◌≤◌, ◌≡◌, ◌&&◌, ◌||◌, ◌++◌, List, [], ◌∷◌, true, false, eqb, nat_lt, get_or, set, map, length, refl, ap, sym, ◌∙◌, arith, inl, inr, if◌then◌else◌}
-use Rattle.std.proofs.lemmas.Bool.{cases_eq, eq-eqb, ne_eqb, lt-ltb, or_left, or_right}
+use Rattle.std.proofs.lemmas.Bool.{cases_eq, ne_eqb, lt-ltb, or_left, or_right}
 use Rattle.std.proofs.lemmas.Bool.Decides.{nat_tests}
 use Rattle.std.proofs.lemmas.List.{get_or-set_same, get_or-set_other}
 use Rattle.std.proofs.lemmas.List.FromFn.{fill_by_all}
 use Rattle.std.specs.List.{All, flat_map, range_with_len}
-use Rattle.hs_types.specs.Lists.{each_once, has}
+use Rattle.hs_expr.specs.Lists.{each_once, has}
 use Rattle.hs_meta.specs.Inheriting.{AreFoundBefore, comes_before}
 use Rattle.hs_meta.specs.Meaning.{features_within}
 use Rattle.hs_meta.specs.Ranks.{AreRanked}
-
-pub has-head : (n : ℕ) (ns : List ℕ) → has (n ∷ ns) n ≡ true
-has-head n ns = or_left (eqb n n) (has ns n) (eq-eqb n n refl)
+use Rattle.hs_expr.proofs.Lists.{has-here}
 
 pub has-tail : (n k : ℕ) (ns : List ℕ) → has ns k ≡ true → has (n ∷ ns) k ≡ true
 has-tail n k ns h = or_right (eqb k n) (has ns k) h
@@ -19,11 +17,11 @@ has-tail n k ns h = or_right (eqb k n) (has ns k) h
 pub flat_map_agree : (f g : ℕ → List ℕ) (ns : List ℕ) → ((n : ℕ) → has ns n ≡ true → f n ≡ g n) → flat_map f ns ≡ flat_map g ns
 flat_map_agree f g [] h = refl
 flat_map_agree f g (n ∷ ns) h =
-    ap (λ ms. ms ++ flat_map f ns) (h n (has-head n ns)) ∙ ap (λ ms. g n ++ ms) (flat_map_agree f g ns (λ k e. h k (has-tail n k ns e)))
+    ap (λ ms. ms ++ flat_map f ns) (h n (has-here n ns)) ∙ ap (λ ms. g n ++ ms) (flat_map_agree f g ns (λ k e. h k (has-tail n k ns e)))
 
 none : (ns : List ℕ) → ((n : ℕ) → has ns n ≡ true → ⊥) → ns ≡ []
 none [] h = refl
-none (n ∷ ns) h = absurd (h n (has-head n ns))
+none (n ∷ ns) h = absurd (h n (has-here n ns))
 
 module _ (supers own : List (List ℕ)) (ranks : List ℕ) (ranked : AreRanked supers ranks) where
   -- Beyond a class's rank more steps find nothing more.

@@ -4,7 +4,7 @@ use Rattle.std.proofs.lemmas.Bool.{false≢true, and_from, and_parts, and_right,
 use Rattle.std.proofs.lemmas.List.Folds.{list_any-append}
 use Rattle.std.specs.Cmp.Lexicographic.{nat_list_eq_equiv}
 use Rattle.std.specs.List.{list_any}
-use Rattle.hs_types.specs.Lists.{same_text}
+use Rattle.hs_expr.specs.Lists.{same_text}
 use Rattle.hs_meta.specs.Names.{differ}
 
 -- A text that stands further before.

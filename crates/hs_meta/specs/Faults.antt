@@ -1,7 +1,8 @@
--- All faults of written classes, in the order in which they are told: ten checks, each over the classes.
+-- All faults of written classes, in the order in which they are reported: ten checks, each over the classes.
 use Rattle.std.specs.Prelude.{ℕ, ℤ, pos, negsuc, List, [], ◌++◌, map, length, take, Bool, true, false, not, nat_le, nat_lt, eqb, ◌&&◌, is_some, if◌then◌else◌}
 use Rattle.std.specs.Option.{option_map_or}
 use Rattle.hs_expr.specs.Verdict.{each, fault_if}
+use Rattle.hs_types.specs.declared.limits.TheConstants.{MAX_CLASSES, MAX_FEATURES}
 use Rattle.hs_types.specs.Metamodel.{is_of_type}
 use Rattle.hs_meta.specs.declared.fault.ModelFault.{ModelFault}
 use Rattle.hs_meta.specs.declared.fault.ModelFaultKind.{ModelFaultKind}
@@ -14,51 +15,52 @@ use Rattle.hs_meta.specs.declared.raw.RawDefault.{RawDefault}
 use Rattle.hs_meta.specs.declared.raw.RawDefault.TheVariants.{LeftOut, Given, NoValue}
 use Rattle.hs_meta.specs.declared.raw.RawReference.{RawReference}
 use Rattle.hs_meta.specs.Names.{data_type_named, differ, is_class, is_identifier}
-use Rattle.hs_types.specs.Supertypes.{conforms, is_below}
-use Rattle.hs_meta.specs.Supertypes.{supers_of}
+use Rattle.hs_types.specs.Reachability.{reaches}
+use Rattle.hs_types.specs.Metamodel.{conforms}
+use Rattle.hs_meta.specs.WrittenSupers.{written_supers}
 
-abbrev pub fault : ModelPlace → ModelFaultKind → ModelFault
-fault place kind = record { place = place; kind = kind }
+abbrev pub model_fault : ModelPlace → ModelFaultKind → ModelFault
+model_fault place kind = record { place = place; kind = kind }
 
--- First: there are more than 256 classes.
+-- There are more than 256 classes.
 abbrev pub many_classes : List RawClass → List ModelFault
-many_classes classes = fault_if (nat_lt 256 (length classes)) (fault place.Classes kind.Limit)
+many_classes classes = fault_if (nat_lt MAX_CLASSES (length classes)) (model_fault place.Classes kind.Limit)
 
 abbrev pub wrong_attribute_name : ℕ → ℕ → RawAttribute → List ModelFault
-wrong_attribute_name c a attribute = fault_if (not (is_identifier attribute.name)) (fault (place.AttributeName c a) kind.Name)
+wrong_attribute_name c a attribute = fault_if (not (is_identifier attribute.name)) (model_fault (place.AttributeName c a) kind.Name)
 
 abbrev pub wrong_reference_name : ℕ → ℕ → RawReference → List ModelFault
-wrong_reference_name c r reference = fault_if (not (is_identifier reference.name)) (fault (place.ReferenceName c r) kind.Name)
+wrong_reference_name c r reference = fault_if (not (is_identifier reference.name)) (model_fault (place.ReferenceName c r) kind.Name)
 
 abbrev pub wrong_names_in : ℕ → RawClass → List ModelFault
-wrong_names_in c class = fault_if (not (is_identifier class.name)) (fault (place.ClassName c) kind.Name) ++ (each (wrong_attribute_name c) class.attributes ++ each (wrong_reference_name c) class.references)
+wrong_names_in c class = fault_if (not (is_identifier class.name)) (model_fault (place.ClassName c) kind.Name) ++ (each (wrong_attribute_name c) class.attributes ++ each (wrong_reference_name c) class.references)
 
--- Second: a class, an attribute or a reference has a name that is no identifier.
+-- A class, an attribute or a reference has a name that isn't an identifier.
 abbrev pub wrong_names : List RawClass → List ModelFault
 wrong_names classes = each wrong_names_in classes
 
--- Third: a class has the name of one before it.
+-- A class has the name of one before it.
 abbrev pub repeated_classes : List RawClass → List ModelFault
-repeated_classes classes = each (λ c class. fault_if (is_class (take c classes) class.name) (fault (place.ClassName c) kind.Twice)) classes
+repeated_classes classes = each (λ c class. fault_if (is_class (take c classes) class.name) (model_fault (place.ClassName c) kind.Twice)) classes
 
 abbrev pub unknown_super : List RawClass → ℕ → ℕ → List ℕ → List ModelFault
-unknown_super classes c s name = fault_if (not (is_class classes name)) (fault (place.Super c s) kind.UnknownSuper)
+unknown_super classes c s name = fault_if (not (is_class classes name)) (model_fault (place.Super c s) kind.UnknownSuper)
 
--- Fourth: a supertype is no class.
+-- A supertype isn't a class.
 abbrev pub unknown_supers : List RawClass → List ModelFault
 unknown_supers classes = each (λ c class. each (unknown_super classes c) class.supers) classes
 
--- Fifth: a class is below itself.
+-- A class is its own supertype.
 abbrev pub super_cycles : List RawClass → List ModelFault
-super_cycles classes = each (λ c class. fault_if (is_below (supers_of classes) c c) (fault (place.Class c) kind.SuperCycle)) classes
+super_cycles classes = each (λ c class. fault_if (reaches (written_supers classes) c c) (model_fault (place.Class c) kind.SuperCycle)) classes
 
 abbrev pub unknown_type : ℕ → ℕ → RawAttribute → List ModelFault
-unknown_type c a attribute = fault_if (not (is_some (data_type_named attribute.data_type))) (fault (place.AttributeType c a) kind.UnknownType)
+unknown_type c a attribute = fault_if (not (is_some (data_type_named attribute.data_type))) (model_fault (place.AttributeType c a) kind.UnknownType)
 
 abbrev pub unknown_target : List RawClass → ℕ → ℕ → RawReference → List ModelFault
-unknown_target classes c r reference = fault_if (not (is_class classes reference.target)) (fault (place.ReferenceTarget c r) kind.UnknownType)
+unknown_target classes c r reference = fault_if (not (is_class classes reference.target)) (model_fault (place.ReferenceTarget c r) kind.UnknownType)
 
--- Sixth: an attribute's type is no data type, or a reference's target is no class.
+-- An attribute's type isn't a data type, or a reference's target isn't a class.
 abbrev pub unknown_types : List RawClass → List ModelFault
 unknown_types classes = each (λ c class. each (unknown_type c) class.attributes ++ each (unknown_target classes c) class.references) classes
 
@@ -69,9 +71,9 @@ default_fits data_type (Given value) = option_map_or (λ known. is_of_type known
 default_fits data_type NoValue = false
 
 abbrev pub bad_default : ℕ → ℕ → RawAttribute → List ModelFault
-bad_default c a attribute = fault_if (not (default_fits attribute.data_type attribute.default)) (fault (place.AttributeDefault c a) kind.BadDefault)
+bad_default c a attribute = fault_if (not (default_fits attribute.data_type attribute.default)) (model_fault (place.AttributeDefault c a) kind.BadDefault)
 
--- Seventh: a default is no value of its attribute's type.
+-- A default isn't a value of its attribute's type.
 abbrev pub bad_defaults : List RawClass → List ModelFault
 bad_defaults classes = each (λ c class. each (bad_default c) class.attributes) classes
 
@@ -82,9 +84,9 @@ bounds_fit (pos lower) (negsuc n) = eqb n 0
 bounds_fit (negsuc n) upper = false
 
 abbrev pub bad_bound : ℕ → ℕ → RawReference → List ModelFault
-bad_bound c r reference = fault_if (not (bounds_fit reference.lower reference.upper)) (fault (place.Reference c r) kind.BadBounds)
+bad_bound c r reference = fault_if (not (bounds_fit reference.lower reference.upper)) (model_fault (place.Reference c r) kind.BadBounds)
 
--- Eighth: a reference has bounds that no number of targets keeps.
+-- A reference has bounds that leave no room for a target, or for fewer targets than it needs.
 abbrev pub bad_bounds : List RawClass → List ModelFault
 bad_bounds classes = each (λ c class. each (bad_bound c) class.references) classes
 
@@ -94,38 +96,32 @@ own_names class = map (λ attribute. attribute.name) class.attributes ++ map (λ
 
 -- The names of all features of class c, those of each class that it conforms to.
 abbrev pub feature_names : List RawClass → ℕ → List (List ℕ)
-feature_names classes c = each (λ d class. if conforms (supers_of classes) c d then own_names class else []) classes
+feature_names classes c = each (λ d class. if conforms (written_supers classes) c d then own_names class else []) classes
 
 abbrev pub repeated_features_at : List RawClass → ℕ → RawClass → List ModelFault
-repeated_features_at classes c class = fault_if (not (differ (feature_names classes c))) (fault (place.Class c) kind.Twice)
+repeated_features_at classes c class = fault_if (not (differ (feature_names classes c))) (model_fault (place.Class c) kind.Twice)
 
--- Ninth: a class has two features of one name, inherited ones included.
+-- A class has two features of one name, inherited ones included.
 abbrev pub repeated_features : List RawClass → List ModelFault
 repeated_features classes = each (repeated_features_at classes) classes
 
 abbrev pub many_features_at : List RawClass → ℕ → RawClass → List ModelFault
-many_features_at classes c class = fault_if (nat_lt 64 (length (feature_names classes c))) (fault (place.Class c) kind.Limit)
+many_features_at classes c class = fault_if (nat_lt MAX_FEATURES (length (feature_names classes c))) (model_fault (place.Class c) kind.Limit)
 
--- Tenth: a class has more than 64 features, inherited ones included.
+-- A class has more than 64 features, inherited ones included.
 abbrev pub many_features : List RawClass → List ModelFault
 many_features classes = each (many_features_at classes) classes
 
--- What the first four checks find.
-abbrev pub faults_of_names : List RawClass → List ModelFault
-faults_of_names classes = many_classes classes ++ (wrong_names classes ++ (repeated_classes classes ++ unknown_supers classes))
-
--- What the sixth check and the next two find.
-abbrev pub faults_of_features : List RawClass → List ModelFault
-faults_of_features classes = unknown_types classes ++ (bad_defaults classes ++ bad_bounds classes)
-
--- What the last two checks find.
-abbrev pub faults_of_inheritance : List RawClass → List ModelFault
-faults_of_inheritance classes = repeated_features classes ++ many_features classes
-
--- What the fifth check and all later ones find.
-abbrev pub faults_from_supers : List RawClass → List ModelFault
-faults_from_supers classes = super_cycles classes ++ (faults_of_features classes ++ faults_of_inheritance classes)
-
 -- All faults, in their order.
-abbrev pub faults : List RawClass → List ModelFault
-faults classes = faults_of_names classes ++ faults_from_supers classes
+abbrev pub model_faults : List RawClass → List ModelFault
+model_faults classes =
+    many_classes classes
+    ++ wrong_names classes
+    ++ repeated_classes classes
+    ++ unknown_supers classes
+    ++ super_cycles classes
+    ++ unknown_types classes
+    ++ bad_defaults classes
+    ++ bad_bounds classes
+    ++ repeated_features classes
+    ++ many_features classes

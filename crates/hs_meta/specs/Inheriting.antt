@@ -1,10 +1,10 @@
 -- How far features are found.
 use Rattle.std.specs.Prelude.{ℕ, ◌≡◌, ◌<◌, List, [], length, Bool, nat_lt, eqb, ◌&&◌, ◌||◌, ◌++◌, not, get_or, if◌then◌else◌}
 use Rattle.std.specs.List.{filter}
-use Rattle.hs_types.specs.Lists.{each_once, has}
+use Rattle.hs_expr.specs.Lists.{each_once, has}
 use Rattle.hs_meta.specs.Meaning.{features_within}
 
--- These numbers, and behind them each further one once.
+-- These numbers, and after them each further one once.
 abbrev pub with_further : List ℕ → List ℕ → List ℕ
 with_further numbers further = numbers ++ filter (λ n. not (has numbers n)) (each_once further)
 

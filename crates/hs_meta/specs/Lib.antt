@@ -1,9 +1,9 @@
 pub mod Names
-pub mod Supertypes
+pub mod WrittenSupers
 pub mod Faults
-pub mod Answers
 pub mod Meaning
 pub mod Samples
 pub mod Ranks
 pub mod Inheriting
 pub mod Numbered
+pub mod Words

@@ -11,15 +11,15 @@ use Rattle.hs_types.specs.declared.meta.DataType.TheVariants.{EInt, ELong, EBool
 use Rattle.hs_types.specs.declared.meta.Feature.{Feature}
 use Rattle.hs_types.specs.declared.meta.FeatureKind.TheVariants.{Attribute, Reference}
 use Rattle.hs_types.specs.declared.meta.Metamodel.{Metamodel}
-use Rattle.hs_types.specs.Lists.{each_once}
+use Rattle.hs_expr.specs.Lists.{each_once}
 use Rattle.hs_meta.specs.declared.raw.RawAttribute.{RawAttribute}
 use Rattle.hs_meta.specs.declared.raw.RawClass.{RawClass}
 use Rattle.hs_meta.specs.declared.raw.RawDefault.{RawDefault}
 use Rattle.hs_meta.specs.declared.raw.RawDefault.TheVariants.{LeftOut, Given, NoValue}
 use Rattle.hs_meta.specs.declared.raw.RawMeta.{RawMeta}
 use Rattle.hs_meta.specs.declared.raw.RawReference.{RawReference}
-use Rattle.hs_meta.specs.Names.{class_named, data_type_named}
-use Rattle.hs_meta.specs.Supertypes.{supers_of}
+use Rattle.hs_meta.specs.Names.{raw_class_number, data_type_named}
+use Rattle.hs_meta.specs.WrittenSupers.{written_supers}
 
 -- What an attribute of this type has where nothing is given.
 abbrev pub plain_value : DataType → Value
@@ -37,7 +37,7 @@ abbrev pub least : ℤ → ℕ
 least (pos n) = n
 least (negsuc n) = 0
 
--- A bound below zero is none.
+-- A negative bound means: no bound.
 abbrev pub most : ℤ → Option ℕ
 most (pos n) = Some n
 most (negsuc n) = None
@@ -45,15 +45,15 @@ most (negsuc n) = None
 abbrev pub data_type_of : RawAttribute → DataType
 data_type_of attribute = unwrap_or (data_type_named attribute.data_type) EString
 
-abbrev pub attribute_of : ℕ → RawAttribute → Feature
-attribute_of owner attribute = record { owner = owner; name = attribute.name; kind = Attribute (data_type_of attribute) (default_value (data_type_of attribute) attribute.default) }
+abbrev pub attribute_of_raw : ℕ → RawAttribute → Feature
+attribute_of_raw owner attribute = record { owner = owner; name = attribute.name; kind = Attribute (data_type_of attribute) (default_value (data_type_of attribute) attribute.default) }
 
-abbrev pub reference_of : List RawClass → ℕ → RawReference → Feature
-reference_of classes owner reference = record { owner = owner; name = reference.name; kind = Reference (unwrap_or (class_named classes reference.target) 0) reference.containment (least reference.lower) (most reference.upper) }
+abbrev pub reference_of_raw : List RawClass → ℕ → RawReference → Feature
+reference_of_raw classes owner reference = record { owner = owner; name = reference.name; kind = Reference (unwrap_or (raw_class_number classes reference.target) 0) reference.containment (least reference.lower) (most reference.upper) }
 
 -- The features that a class owns, its attributes before its references.
 abbrev pub own_features : List RawClass → ℕ → RawClass → List Feature
-own_features classes c class = map (attribute_of c) class.attributes ++ map (reference_of classes c) class.references
+own_features classes c class = map (attribute_of_raw c) class.attributes ++ map (reference_of_raw classes c) class.references
 
 -- How many features a class owns.
 abbrev pub own_count : RawClass → ℕ
@@ -69,20 +69,20 @@ own_numbers classes = own_numbers_from 0 classes
 
 -- The numbers of a class's direct supertypes.
 abbrev pub direct_supers : List RawClass → RawClass → List ℕ
-direct_supers classes class = filter_map (class_named classes) class.supers
+direct_supers classes class = filter_map (raw_class_number classes) class.supers
 
--- The features of class c, by the direct supertypes and the own features of each class: the inherited ones, supertype by supertype, each once, and then its own. Supertypes are followed for at most so many steps.
+-- The features of class c, by the direct supertypes and the own features of each class: the inherited ones, supertype by supertype, each once, and then its own. Supertypes are followed for at most `steps` steps.
 abbrev pub features_within : List (List ℕ) → List (List ℕ) → ℕ → ℕ → List ℕ
 features_within supers own zero c = get_or own c []
 features_within supers own (suc steps) c = each_once (flat_map (features_within supers own steps) (get_or supers c [])) ++ get_or own c []
 
 -- No chain of supertypes is longer than there are classes.
 abbrev pub features_at : List RawClass → ℕ → List ℕ
-features_at classes c = features_within (supers_of classes) (own_numbers classes) (length classes) c
+features_at classes c = features_within (written_supers classes) (own_numbers classes) (length classes) c
 
-abbrev pub class_of : List RawClass → ℕ → RawClass → Class
-class_of classes c class = record { name = class.name; is_abstract = class.is_abstract; supers = direct_supers classes class; features = features_at classes c }
+abbrev pub class_of_raw : List RawClass → ℕ → RawClass → Class
+class_of_raw classes c class = record { name = class.name; is_abstract = class.is_abstract; supers = direct_supers classes class; features = features_at classes c }
 
 -- Classes and features are numbered in written order.
-abbrev pub meant : RawMeta → Metamodel
-meant raw = record { format = raw.format; classes = each (λ c class. class_of raw.classes c class ∷ []) raw.classes; features = each (own_features raw.classes) raw.classes }
+abbrev pub metamodel_of : RawMeta → Metamodel
+metamodel_of raw = record { format = raw.format; classes = each (λ c class. class_of_raw raw.classes c class ∷ []) raw.classes; features = each (own_features raw.classes) raw.classes }

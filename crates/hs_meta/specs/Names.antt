@@ -1,9 +1,10 @@
 -- Names as they are written, and what they stand for.
-use Rattle.std.specs.Prelude.{ℕ, List, [], ◌∷◌, length, Bool, true, false, not, nat_le, ◌&&◌, ◌||◌, ◌==◌, Option, Some, None, codes, if◌then◌else◌}
+use Rattle.std.specs.Prelude.{ℕ, List, [], ◌∷◌, length, Bool, true, false, not, nat_le, nat_lt, ◌&&◌, ◌||◌, ◌==◌, Option, Some, None, codes, if◌then◌else◌}
 use Rattle.std.specs.List.{list_all, list_any, position}
 use Rattle.hs_types.specs.declared.meta.DataType.{DataType}
 use Rattle.hs_types.specs.declared.meta.DataType.TheVariants.{EInt, ELong, EBoolean, EString}
-use Rattle.hs_types.specs.Lists.{same_text}
+use Rattle.hs_types.specs.declared.limits.TheConstants.{MAX_IDENTIFIER_BYTES}
+use Rattle.hs_expr.specs.Lists.{same_text}
 use Rattle.hs_meta.specs.declared.raw.RawClass.{RawClass}
 
 -- An ASCII letter or `_`.
@@ -17,7 +18,7 @@ goes_on_in_name b = begins_name b || (nat_le 48 b && nat_le b 57)
 -- Classes, attributes and references are named by a letter or `_`, and then letters, digits and `_`, at most 64 bytes in all.
 abbrev pub is_identifier : List ℕ → Bool
 is_identifier [] = false
-is_identifier (b ∷ bs) = begins_name b && list_all goes_on_in_name bs && nat_le (length bs) 63
+is_identifier (b ∷ bs) = begins_name b && list_all goes_on_in_name bs && nat_lt (length bs) MAX_IDENTIFIER_BYTES
 
 -- No text comes twice.
 abbrev pub differ : List (List ℕ) → Bool
@@ -29,8 +30,8 @@ abbrev pub is_class : List RawClass → List ℕ → Bool
 is_class classes name = list_any (λ class. same_text class.name name) classes
 
 -- The number of the first class that has this name.
-abbrev pub class_named : List RawClass → List ℕ → Option ℕ
-class_named classes name = position (λ class. same_text class.name name) classes
+abbrev pub raw_class_number : List RawClass → List ℕ → Option ℕ
+raw_class_number classes name = position (λ class. same_text class.name name) classes
 
 -- The data type of this name.
 abbrev pub data_type_named : List ℕ → Option DataType

@@ -1,6 +1,6 @@
 -- An order of classes in which each comes after its supertypes.
 use Rattle.std.specs.Prelude.{ℕ, ◌≡◌, ◌<◌, List, [], map, length, Bool, true, not, get_or, count_by}
-use Rattle.hs_types.specs.Lists.{has}
+use Rattle.hs_expr.specs.Lists.{has}
 
 -- How many classes are not below each class, by the rows of what is below.
 abbrev pub ranks : List (List Bool) → List ℕ

@@ -2,51 +2,25 @@
 
 ghost use Rattle.std.specs.Prelude.{◌≡◌, ◌++◌, not, is_some};
 ghost use Rattle.hs_expr.specs.Verdict.{verdict, each, fault_if};
-ghost use Rattle.hs_types.specs.Metamodel as metamodel;
 ghost use Rattle.hs_meta.specs.Faults as spec;
 ghost use Rattle.hs_meta.specs.Names as names;
 
 use crate::fault::{ModelFault, ModelFaultKind, ModelPlace, fault};
 use crate::names::{data_type_named, is_class, is_identifier};
 use crate::raw::{RawAttribute, RawClass, RawDefault, RawReference};
-use hs_expr::{Text, Value, check_each, fault_if};
-use hs_types::DataType;
+use hs_expr::{Text, check_each, fault_if};
+use hs_types::limits::MAX_CLASSES;
 
-/// The most classes of a metamodel.
-const MOST_CLASSES: usize = 256;
-
-/// The first fault of the number and the names of the classes, and of the names of their
-/// supertypes.
-#[tactic(auto, using(hs_expr::proofs::Verdicts::each_steps))]
-pub fn names_fit(classes: &[RawClass]) -> Result<(), ModelFault>
-    ensures { result ≡ verdict (spec.faults_of_names classes.now) }
-{
-    few_classes(classes)?;
-    names_right(classes)?;
-    classes_differ(classes)?;
-    supers_known(classes)
-}
-
-/// The first fault of the types, the defaults and the bounds of features.
-#[tactic(auto, using(hs_expr::proofs::Verdicts::each_steps))]
-pub fn features_fit(classes: &[RawClass]) -> Result<(), ModelFault>
-    ensures { result ≡ verdict (spec.faults_of_features classes.now) }
-{
-    types_known(classes)?;
-    defaults_fit(classes)?;
-    bounds_right(classes)
-}
-
-fn few_classes(classes: &[RawClass]) -> Result<(), ModelFault>
+pub fn classes_few(classes: &[RawClass]) -> Result<(), ModelFault>
     ensures { result ≡ verdict (spec.many_classes classes.now) }
 {
     fault_if(
-        classes.len() > MOST_CLASSES,
+        classes.len() > MAX_CLASSES,
         fault(ModelPlace::Classes, ModelFaultKind::Limit),
     )
 }
 
-fn names_right(classes: &[RawClass]) -> Result<(), ModelFault>
+pub fn names_right(classes: &[RawClass]) -> Result<(), ModelFault>
     ensures { result ≡ verdict (spec.wrong_names classes.now) }
 {
     check_each(
@@ -99,12 +73,12 @@ fn reference_names_right(c: usize, class: &RawClass) -> Result<(), ModelFault>
 }
 
 fn name_right(name: &Text, place: ModelPlace) -> Result<(), ModelFault>
-    ensures { result ≡ verdict (fault_if (not (names.is_identifier name.now)) (spec.fault place ModelFaultKind.Name)) }
+    ensures { result ≡ verdict (fault_if (not (names.is_identifier name.now)) (spec.model_fault place ModelFaultKind.Name)) }
 {
     fault_if(!is_identifier(name), fault(place, ModelFaultKind::Name))
 }
 
-fn classes_differ(classes: &[RawClass]) -> Result<(), ModelFault>
+pub fn classes_differ(classes: &[RawClass]) -> Result<(), ModelFault>
     ensures { result ≡ verdict (spec.repeated_classes classes.now) }
 {
     check_each(
@@ -118,7 +92,7 @@ fn classes_differ(classes: &[RawClass]) -> Result<(), ModelFault>
     )
 }
 
-fn supers_known(classes: &[RawClass]) -> Result<(), ModelFault>
+pub fn supers_known(classes: &[RawClass]) -> Result<(), ModelFault>
     ensures { result ≡ verdict (spec.unknown_supers classes.now) }
 {
     check_each(
@@ -143,7 +117,7 @@ fn supers_known(classes: &[RawClass]) -> Result<(), ModelFault>
     )
 }
 
-fn types_known(classes: &[RawClass]) -> Result<(), ModelFault>
+pub fn types_known(classes: &[RawClass]) -> Result<(), ModelFault>
     ensures { result ≡ verdict (spec.unknown_types classes.now) }
 {
     check_each(
@@ -200,7 +174,7 @@ fn targets_known(classes: &[RawClass], c: usize, class: &RawClass) -> Result<(),
     )
 }
 
-fn defaults_fit(classes: &[RawClass]) -> Result<(), ModelFault>
+pub fn defaults_fit(classes: &[RawClass]) -> Result<(), ModelFault>
     ensures { result ≡ verdict (spec.bad_defaults classes.now) }
 {
     check_each(
@@ -231,7 +205,7 @@ fn default_fits(data_type: &Text, default: &RawDefault) -> bool
     match default {
         RawDefault::LeftOut => true,
         RawDefault::Given(value) => match data_type_named(data_type) {
-            Some(known) => is_of_type(known, value),
+            Some(known) => known.has(value),
             None => true,
         },
         RawDefault::NoValue => false,
@@ -244,30 +218,7 @@ fn is_data_type(name: &Text) -> bool
     data_type_named(name).is_some()
 }
 
-/// Whether the data type has the value.
-fn is_of_type(data_type: DataType, value: &Value) -> bool
-    ensures { result ≡ metamodel.is_of_type data_type value.now }
-{
-    match (data_type, value) {
-        (_, Value::Int(n)) => has_number(data_type, *n),
-        (DataType::EBoolean, Value::Bool(_)) => true,
-        (DataType::EString, Value::Text(_)) => true,
-        _ => false,
-    }
-}
-
-/// Whether the data type has the number.
-fn has_number(data_type: DataType, n: i64) -> bool
-    ensures { result ≡ metamodel.is_of_type data_type (Value.Int n) }
-{
-    match data_type {
-        DataType::EInt => i32::try_from(n).is_ok(),
-        DataType::ELong => true,
-        DataType::EBoolean | DataType::EString => false,
-    }
-}
-
-fn bounds_right(classes: &[RawClass]) -> Result<(), ModelFault>
+pub fn bounds_right(classes: &[RawClass]) -> Result<(), ModelFault>
     ensures { result ≡ verdict (spec.bad_bounds classes.now) }
 {
     check_each(

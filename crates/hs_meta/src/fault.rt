@@ -1,31 +1,47 @@
 ghost use Rattle.std.specs.Prelude.{◌≡◌};
-ghost use Rattle.hs_expr.specs.Steps.{Gives};
-
-use hs_expr::Failure;
+ghost use Rattle.hs_meta.specs.Words.{model_word};
 
 /// What is wrong in a written metamodel.
 #[derive(Clone, Copy, PartialEq, Eq, Debug)]
 pub enum ModelFaultKind {
-    /// A declared name is no identifier.
+    /// A declared name isn't an identifier.
     Name,
     /// A class name comes again, or a class has two features of one name.
     Twice,
-    /// A supertype is no class.
+    /// A supertype isn't a class.
     UnknownSuper,
     /// A class is its own supertype, by one step or more.
     SuperCycle,
-    /// An attribute's type is no data type, or a reference's target is no class.
+    /// An attribute's type isn't a data type, or a reference's target isn't a class.
     UnknownType,
-    /// A default is no value of its attribute's type.
+    /// A default isn't a value of its attribute's type.
     BadDefault,
-    /// A reference has no room for a target, or needs more than it has room for.
+    /// A reference has no room for a target, needs more than it has room for, or needs fewer than 0.
     BadBounds,
     /// There are too many classes, or too many features in one.
     Limit,
 }
 
+impl ModelFaultKind {
+    /// The word that the kind is printed as.
+    pub fn word(self) -> &'static str
+        ensures { result.now ≡ model_word self }
+    {
+        match self {
+            ModelFaultKind::Name => "name",
+            ModelFaultKind::Twice => "twice",
+            ModelFaultKind::UnknownSuper => "unknownsuper",
+            ModelFaultKind::SuperCycle => "supercycle",
+            ModelFaultKind::UnknownType => "unknowntype",
+            ModelFaultKind::BadDefault => "baddefault",
+            ModelFaultKind::BadBounds => "badbounds",
+            ModelFaultKind::Limit => "limit",
+        }
+    }
+}
+
 /// Where a fault is. Classes, and the supertypes, attributes and references of one, go by their
-/// places in what is written.
+/// indices in what is written.
 #[derive(Clone, Copy, PartialEq, Eq, Debug)]
 pub enum ModelPlace {
     Classes,
@@ -40,7 +56,7 @@ pub enum ModelPlace {
     ReferenceTarget { class: usize, number: usize },
 }
 
-/// Why what is written is no metamodel.
+/// Why what is written isn't a metamodel.
 #[derive(Clone, Copy, PartialEq, Eq, Debug)]
 pub struct ModelFault {
     pub place: ModelPlace,
@@ -51,14 +67,4 @@ pub fn fault(place: ModelPlace, kind: ModelFaultKind) -> ModelFault
     ensures { result ≡ record { place = place; kind = kind } }
 {
     ModelFault { place, kind }
-}
-
-/// The same answer, of a call that may want memory.
-pub fn told(answer: Result<(), ModelFault>) -> Result<(), Failure<ModelFault>>
-    ensures { Gives result answer }
-{
-    match answer {
-        Ok(()) => Ok(()),
-        Err(fault) => Err(Failure::Fault(fault)),
-    }
 }

@@ -2,8 +2,8 @@
 
 ghost use Rattle.std.specs.Prelude.{◌≡◌, ◌+◌, ◌∷◌, ◌++◌, ◌<◌, ◌≤◌, ℕ, List, [], map, not, length, get_or, slice_set, sum_by, count_by, IfOk, OnOk};
 ghost use Rattle.std.specs.List.{All, flat_map, range_with_len};
-ghost use Rattle.hs_types.specs.Lists as lists;
-ghost use Rattle.hs_types.specs.Lists.{each_once};
+ghost use Rattle.hs_expr.specs.Lists as lists;
+ghost use Rattle.hs_expr.specs.Lists.{each_once};
 ghost use Rattle.hs_meta.specs.Inheriting as inheriting;
 ghost use Rattle.hs_meta.specs.Meaning as meaning;
 ghost use Rattle.hs_meta.specs.Ranks as spec;

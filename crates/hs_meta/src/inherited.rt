@@ -4,31 +4,29 @@ ghost use Rattle.std.specs.Prelude.{◌≡◌, ◌<◌, ◌++◌, [], map, lengt
 ghost use Rattle.hs_expr.specs.Steps.{Gives};
 ghost use Rattle.hs_expr.specs.Verdict.{verdict, each};
 ghost use Rattle.hs_meta.specs.Faults as spec;
-ghost use Rattle.hs_types.specs.Supertypes.{rows as rows_for};
-ghost use Rattle.hs_meta.specs.Supertypes as supertypes;
-ghost use Rattle.hs_types.specs.Supertypes as closed;
+ghost use Rattle.hs_types.specs.Reachability.{reach_rows as rows_for};
+ghost use Rattle.hs_meta.specs.WrittenSupers as supertypes;
+ghost use Rattle.hs_types.specs.Metamodel as metamodel;
 
 use crate::fault::{ModelFault, ModelFaultKind, ModelPlace, fault};
 use crate::names::differ;
 use crate::raw::{RawAttribute, RawClass, RawReference};
 use hs_expr::{Failure, List, Text, check_each, fault_if};
-use hs_types::is_below;
+use hs_types::limits::MAX_FEATURES;
+use hs_types::reaches;
 use std::alloc::{AllocError, Global};
 
-/// The most features of a class.
-const MOST_FEATURES: usize = 64;
-
 /// The first class that is below itself, by the rows.
-#[tactic(auto, using(crate::proofs::Below::supers_each))]
+#[tactic(auto, using(crate::proofs::WrittenSupers::supers_each))]
 pub fn no_cycle(classes: &[RawClass], rows: &[List<bool>]) -> Result<(), ModelFault>
-    requires { rows.now ≡ rows_for (supertypes.supers_of classes.now) }
+    requires { rows.now ≡ rows_for (supertypes.written_supers classes.now) }
     ensures { result ≡ verdict (spec.super_cycles classes.now) }
 {
     check_each(
         classes,
         &|c: usize, class: &RawClass| {
             fault_if(
-                is_below(rows, c, c),
+                reaches(rows, c, c),
                 fault(ModelPlace::Class { class: c }, ModelFaultKind::SuperCycle),
             )
         },
@@ -42,7 +40,7 @@ pub fn features_differ(
     classes: &[RawClass],
     rows: &[List<bool>],
 ) -> Result<(), Failure<ModelFault>>
-    requires { rows.now ≡ rows_for (supertypes.supers_of classes.now) }
+    requires { rows.now ≡ rows_for (supertypes.written_supers classes.now) }
     ensures { Gives result (verdict (spec.repeated_features classes.now)) }
 {
     for (c, _) in classes.iter().enumerate() {
@@ -64,12 +62,12 @@ pub fn features_few(
     classes: &[RawClass],
     rows: &[List<bool>],
 ) -> Result<(), Failure<ModelFault>>
-    requires { rows.now ≡ rows_for (supertypes.supers_of classes.now) }
+    requires { rows.now ≡ rows_for (supertypes.written_supers classes.now) }
     ensures { Gives result (verdict (spec.many_features classes.now)) }
 {
     for (c, _) in classes.iter().enumerate() {
         let names = feature_names(alloc, classes, rows, c)?;
-        if names.len() > MOST_FEATURES {
+        if names.len() > MAX_FEATURES {
             return Err(Failure::Fault(fault(
                 ModelPlace::Class { class: c },
                 ModelFaultKind::Limit,
@@ -80,14 +78,14 @@ pub fn features_few(
 }
 
 /// The names of all features of class `c`.
-#[tactic(auto, using(crate::proofs::Below::supers_each))]
+#[tactic(auto, using(crate::proofs::WrittenSupers::supers_each))]
 fn feature_names(
     alloc: Global,
     classes: &[RawClass],
     rows: &[List<bool>],
     c: usize,
 ) -> Result<List<Text>, AllocError>
-    requires { rows.now ≡ rows_for (supertypes.supers_of classes.now) }
+    requires { rows.now ≡ rows_for (supertypes.written_supers classes.now) }
     ensures { IfOk result (λ names. names ≡ spec.feature_names classes.now c) }
 {
     let mut names = List::new(alloc);
@@ -100,9 +98,9 @@ fn feature_names(
 }
 
 fn conforms(rows: &[List<bool>], c: usize, d: usize) -> bool
-    ensures { (supers : _) → rows.now ≡ rows_for supers → d < length supers → result ≡ closed.conforms supers c d }
+    ensures { (supers : _) → rows.now ≡ rows_for supers → d < length supers → result ≡ metamodel.conforms supers c d }
 {
-    c == d || is_below(rows, c, d)
+    c == d || reaches(rows, c, d)
 }
 
 fn add_own_names(class: &RawClass, names: &mut List<Text>) -> Result<(), AllocError>

@@ -7,18 +7,18 @@ ghost use Rattle.hs_meta.specs.Names as spec;
 use crate::raw::RawClass;
 use hs_expr::{List, Text};
 use hs_types::DataType;
+use hs_types::limits::MAX_IDENTIFIER_BYTES;
 use std::alloc::{AllocError, Global};
 use std::collections::BTreeSet;
-
-/// The most bytes of a name.
-const MOST_BYTES: usize = 64;
 
 /// Whether a text can name a class, an attribute or a reference.
 pub fn is_identifier(name: &Text) -> bool
     ensures { result ≡ spec.is_identifier name.now }
 {
     match name.as_str().as_bytes() {
-        [first, rest @ ..] => begins_name(*first) && all_go_on(rest) && rest.len() < MOST_BYTES,
+        [first, rest @ ..] => begins_name(*first)
+            && all_go_on(rest)
+            && rest.len() < MAX_IDENTIFIER_BYTES,
         [] => false,
     }
 }
@@ -49,8 +49,8 @@ pub fn is_class(classes: &[RawClass], name: &Text) -> bool
 }
 
 /// The number of the first class that has this name.
-pub fn class_named(classes: &[RawClass], name: &Text) -> Option<usize>
-    ensures { result ≡ spec.class_named classes.now name.now }
+pub fn raw_class_number(classes: &[RawClass], name: &Text) -> Option<usize>
+    ensures { result ≡ spec.raw_class_number classes.now name.now }
 {
     classes.iter().position(|class| class.name == *name)
 }

@@ -10,6 +10,7 @@ ghost use Rattle.hs_meta.specs.Numbered.{KnowsClasses};
 use crate::raw::RawClass;
 use hs_expr::{List, Text};
 use hs_types::ClassNo;
+use hs_types::limits::MAX_CLASSES;
 use std::alloc::{AllocError, Global};
 use std::collections::BTreeMap;
 
@@ -18,7 +19,7 @@ pub type Numbers = BTreeMap<String, ClassNo>;
 
 /// The number of each class by its name; of two classes with one name, that of the first.
 pub fn numbers_of(alloc: Global, classes: &[RawClass]) -> Result<Numbers, AllocError>
-    requires { length classes.now ≤ 256 }
+    requires { length classes.now ≤ MAX_CLASSES }
     ensures { IfOk result (λ numbers. KnowsClasses numbers classes.now) }
 {
     let mut numbers = Numbers::new(alloc);
@@ -47,7 +48,7 @@ fn add_class(
 
 /// The number of the class of this name.
 pub fn number_of(numbers: &Numbers, name: &Text) -> ClassNo
-    ensures { (classes : List RawClass) → KnowsClasses numbers.now classes → result ≡ unwrap_or (names.class_named classes name.now) 0 }
+    ensures { (classes : List RawClass) → KnowsClasses numbers.now classes → result ≡ unwrap_or (names.raw_class_number classes name.now) 0 }
 {
     numbers.get(name.as_str()).copied().unwrap_or(0)
 }
@@ -58,7 +59,7 @@ pub fn numbers_named(
     numbers: &Numbers,
     texts: &[Text],
 ) -> Result<List<ClassNo>, AllocError>
-    ensures { (classes : List RawClass) → KnowsClasses numbers.now classes → IfOk result (λ found. found ≡ filter_map (names.class_named classes) texts.now) }
+    ensures { (classes : List RawClass) → KnowsClasses numbers.now classes → IfOk result (λ found. found ≡ filter_map (names.raw_class_number classes) texts.now) }
 {
     let mut found = List::new(alloc);
     for text in texts {
@@ -69,7 +70,7 @@ pub fn numbers_named(
 
 fn add_named(numbers: &Numbers, text: &Text, found: &mut List<ClassNo>) -> Result<(), AllocError>
     ensures { (classes : List RawClass) (rest : List (List ℕ)) → KnowsClasses numbers.now classes
-        → OnOk result (found.new ++ filter_map (names.class_named classes) rest ≡ found.old ++ filter_map (names.class_named classes) (text.now ∷ rest)) }
+        → OnOk result (found.new ++ filter_map (names.raw_class_number classes) rest ≡ found.old ++ filter_map (names.raw_class_number classes) (text.now ∷ rest)) }
 {
     match numbers.get(text.as_str()) {
         Some(number) => found.push(*number),

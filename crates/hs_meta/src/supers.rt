@@ -3,16 +3,16 @@
 ghost use Rattle.std.specs.Prelude.{◌≡◌, IfOk};
 ghost use Rattle.std.specs.List.{filter_map};
 ghost use Rattle.hs_meta.specs.Names as by_name;
-ghost use Rattle.hs_meta.specs.Supertypes as spec;
+ghost use Rattle.hs_meta.specs.WrittenSupers as spec;
 
-use crate::names::class_named;
+use crate::names::raw_class_number;
 use crate::raw::RawClass;
 use hs_expr::{List, Text};
 use std::alloc::{AllocError, Global};
 
 /// The numbers of each class's direct supertypes.
-pub fn supers_of(alloc: Global, classes: &[RawClass]) -> Result<List<List<usize>>, AllocError>
-    ensures { IfOk result (λ supers. supers ≡ spec.supers_of classes.now) }
+pub fn written_supers(alloc: Global, classes: &[RawClass]) -> Result<List<List<usize>>, AllocError>
+    ensures { IfOk result (λ supers. supers ≡ spec.written_supers classes.now) }
 {
     let mut supers = List::new(alloc);
     for class in classes {
@@ -27,11 +27,11 @@ fn numbers_of(
     classes: &[RawClass],
     names: &[Text],
 ) -> Result<List<usize>, AllocError>
-    ensures { IfOk result (λ numbers. numbers ≡ filter_map (by_name.class_named classes.now) names.now) }
+    ensures { IfOk result (λ numbers. numbers ≡ filter_map (by_name.raw_class_number classes.now) names.now) }
 {
     let mut numbers = List::new(alloc);
     for name in names {
-        match class_named(classes, name) {
+        match raw_class_number(classes, name) {
             Some(number) => numbers.push(number)?,
             None => {}
         }

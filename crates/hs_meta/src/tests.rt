@@ -65,7 +65,7 @@ fn class(alloc: Global, text: &str) -> Result<RawClass, AllocError> {
     Ok(made)
 }
 
-/// The classes that are written one behind another.
+/// The classes that are written one after another.
 fn classes(alloc: Global, text: &str) -> Result<List<RawClass>, AllocError> {
     let mut made = List::new(alloc);
     for word in text.split(' ') {
@@ -402,7 +402,7 @@ fn built(alloc: Global, text: &str) -> Result<Meta, Failure<ModelFault>> {
     build(alloc, RawMeta { format: 1, classes })
 }
 
-/// The names of a class's features, each behind a point.
+/// The names of a class's features, each after a point.
 fn features_shown(alloc: Global, meta: &Meta, class: &Class) -> Result<String, AllocError> {
     let mut shown = String::from_str(alloc, class.name.as_str())?;
     for number in class.features.as_slice() {

@@ -2,7 +2,8 @@ use Rattle.std.proofs.Common.{ℕ, ◌+◌, ◌<◌, ◌≤◌, ◌≡◌, List,
 use Rattle.std.proofs.lemmas.List.{append-nil, take_at}
 use Rattle.std.proofs.lemmas.Bool.{cases_lt}
 use borrow.Author.Count.{below_more}
-use Rattle.hs_search.specs.Choice.{IsBelow, IsNone, IsChoice, IsDeadEnd, EachFits}
+use Rattle.hs_expr.specs.Lexicographic.{IsBefore}
+use Rattle.hs_search.specs.Choice.{IsNone, IsChoice, IsDeadEnd, EachFits}
 use Rattle.hs_search.specs.Search.{IsAbove, floor, GoesOn, GoesOnBest}
 
 pub EachFits-push : (Fits : List ℕ → ℕ → Type 0) (front xs : List ℕ) (x : ℕ) → EachFits Fits front xs → Fits (front ++ xs) x → EachFits Fits front (xs ++ x ∷ [])
@@ -56,7 +57,7 @@ best-first size Good bound behind front x all passed same b short =
       best = record { wanted = record { choice = rw append_assoc at b.best.wanted.choice; above = (same b.rest).1 b.best.wanted.above }; least = none_below };
     }
   where
-    none_below : (others : List ℕ) → GoesOn size Good bound front others → IsBelow others (x ∷ b.rest) → ⊥
+    none_below : (others : List ℕ) → GoesOn size Good bound front others → IsBefore others (x ∷ b.rest) → ⊥
     none_below [] g below = short (rw append-nil at g.choice.whole)
     none_below (y ∷ ys) g below =
         elim below [

@@ -1,16 +1,11 @@
-use Rattle.std.specs.Prelude.{ℕ, ◌<◌, ◌≡◌, ◌⊎◌, List, [], ◌∷◌, ◌++◌, length}
-
--- The first list comes before the second: at the first place where they differ it has the smaller
--- number, or it ends there.
-abbrev pub IsBelow : List ℕ → List ℕ → Type 0
-IsBelow xs [] = ⊥
-IsBelow [] (y ∷ ys) = Unit {0}
-IsBelow (x ∷ xs) (y ∷ ys) = (x < y) ⊎ ((x ≡ y) × IsBelow xs ys)
+-- Choices of numbers: the lists that are searched, and the least of them.
+use Rattle.std.specs.Prelude.{ℕ, ◌≡◌, List, [], ◌∷◌, ◌++◌, length}
+use Rattle.hs_expr.specs.Lexicographic.{IsBefore}
 
 -- Of the wanted lists, this one is the least.
-pub record IsLeast (Wanted : List ℕ → Type 0) (xs : List ℕ) : Type 0 where
+pub record IsLeastList (Wanted : List ℕ → Type 0) (xs : List ℕ) : Type 0 where
   pub wanted : Wanted xs
-  pub least : (others : List ℕ) → Wanted others → IsBelow others xs → ⊥
+  pub least : (others : List ℕ) → Wanted others → IsBefore others xs → ⊥
 
 -- No list is wanted.
 abbrev pub IsNone : (List ℕ → Type 0) → Type 0
@@ -24,7 +19,7 @@ pub record IsChoice (size : ℕ) (Good : List ℕ → Type 0) (xs : List ℕ) : 
 -- A choice that comes after this list.
 pub record IsChoiceAfter (size : ℕ) (Good : List ℕ → Type 0) (after xs : List ℕ) : Type 0 where
   pub choice : IsChoice size Good xs
-  pub above : IsBelow after xs
+  pub above : IsBefore after xs
 
 -- No choice begins with these numbers.
 abbrev pub IsDeadEnd : ℕ → (List ℕ → Type 0) → List ℕ → Type 0

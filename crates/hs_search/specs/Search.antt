@@ -1,10 +1,12 @@
+-- What a search goes on to from a front of a choice.
 use Rattle.std.specs.Prelude.{ℕ, ◌≡◌, List, [], ◌∷◌, ◌++◌, Option, Some, None}
-use Rattle.hs_search.specs.Choice.{IsBelow, IsChoice, IsLeast}
+use Rattle.hs_expr.specs.Lexicographic.{IsBefore}
+use Rattle.hs_search.specs.Choice.{IsChoice, IsLeastList}
 
 -- The list comes after the bound, if there is one.
 abbrev pub IsAbove : Option (List ℕ) → List ℕ → Type 0
 IsAbove None xs = Unit {0}
-IsAbove (Some bound) xs = IsBelow bound xs
+IsAbove (Some bound) xs = IsBefore bound xs
 
 -- The least number that a list above the bound can begin with.
 abbrev pub floor : Option (List ℕ) → ℕ
@@ -21,4 +23,4 @@ pub record GoesOn (size : ℕ) (Good : List ℕ → Type 0) (bound : Option (Lis
 pub record GoesOnBest (size : ℕ) (Good : List ℕ → Type 0) (bound : Option (List ℕ)) (front all : List ℕ) : Type 0 where
   pub rest : List ℕ
   pub joined : all ≡ front ++ rest
-  pub best : IsLeast (GoesOn size Good bound front) rest
+  pub best : IsLeastList (GoesOn size Good bound front) rest

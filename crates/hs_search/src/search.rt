@@ -1,7 +1,7 @@
 ghost use Rattle.std.specs.Prelude.{◌≡◌, ℕ, List, ◌<◌, ◌≤◌, ◌++◌, [], ◌∷◌, ◌↔◌, IsTrue, IfSome, IfNone, option_copied};
 ghost use Rattle.std.specs.Bool.{OnTrue, OnFalse};
 ghost use Rattle.arrayvec.specs.ArrayVec.{array_vec_len};
-ghost use Rattle.hs_search.specs.Choice.{EachFits, IsChoice, IsChoiceAfter, IsLeast, IsNone};
+ghost use Rattle.hs_search.specs.Choice.{EachFits, IsChoice, IsChoiceAfter, IsLeastList, IsNone};
 ghost use Rattle.hs_search.specs.Search.{GoesOn, GoesOnBest, IsAbove, floor};
 
 use crate::{Choice, Numbers};
@@ -9,7 +9,7 @@ use crate::{Choice, Numbers};
 /// The least choice.
 pub fn least<C: Choice>(choice: &C) -> Option<Numbers>
     requires room { C.size choice.now ≤ 28 }
-    ensures least { IfSome result (λ found. IsLeast (IsChoice (C.size choice.now) (C.Good choice.now)) found.items) }
+    ensures least { IfSome result (λ found. IsLeastList (IsChoice (C.size choice.now) (C.Good choice.now)) found.items) }
     ensures none { IfNone result (IsNone (IsChoice (C.size choice.now) (C.Good choice.now))) }
 {
     let mut numbers = Numbers::new();
@@ -23,7 +23,7 @@ pub fn least<C: Choice>(choice: &C) -> Option<Numbers>
 /// The least choice that comes after the list.
 pub fn next_after<C: Choice>(choice: &C, after: &[u32]) -> Option<Numbers>
     requires room { C.size choice.now ≤ 28 }
-    ensures least { IfSome result (λ found. IsLeast (IsChoiceAfter (C.size choice.now) (C.Good choice.now) after.now) found.items) }
+    ensures least { IfSome result (λ found. IsLeastList (IsChoiceAfter (C.size choice.now) (C.Good choice.now) after.now) found.items) }
     ensures none { IfNone result (IsNone (IsChoiceAfter (C.size choice.now) (C.Good choice.now) after.now)) }
 {
     let mut numbers = Numbers::new();

@@ -10,20 +10,14 @@ use Rattle.hs_types.specs.declared.meta.Metamodel.{Metamodel}
 use Rattle.hs_types.specs.declared.plan.Plan.{Plan}
 use Rattle.hs_types.specs.declared.rule.Rule.{Rule}
 use Rattle.hs_types.specs.Journal.{AppliedAsks, IsWithinNumbers, gone_objects, match_named, new_names, old_values}
-use Rattle.hs_types.specs.Metamodel.{IsMeta}
-use Rattle.hs_types.specs.Plan.{Fits, plan_of}
+use Rattle.hs_types.specs.Plan.{plan_of}
 use Rattle.hs_types.specs.Step.{step}
-use Rattle.hs_types.specs.TypedGraph.{IsTyped}
 use Rattle.hs_types.specs.ValidMatch.{IsValid}
-use Rattle.hs_finding.specs.FirstMatch.{no_args}
+use Rattle.hs_types.specs.Arguments.{no_args}
 use Rattle.hs_apply.specs.Additions.{OnlyMakes}
-use Rattle.hs_laws.proofs.Fitting.{plan-fits}
-use Rattle.hs_session.specs.Runnable.{HasRoom, IsRunnable}
+use Rattle.hs_session.specs.Runnable.{HasRoomFor}
 
-pub fits_here : (m : Metamodel) (g : Graph) (rule : Rule) (f : Match) (plan : Plan) → plan ≡ plan_of m g rule no_args f → IsMeta m → IsTyped m g → IsRunnable m g rule → IsValid m g rule no_args f → Fits m g plan
-fits_here m g rule f plan same meta typed runs valid = rw same (plan-fits m g rule no_args f meta runs.well_formed typed valid)
-
-pub within_numbers : (g : Graph) (rule : Rule) (plan : Plan) → HasRoom g rule → length plan.make_objects ≤ length rule.shape.nodes → length plan.make_edges ≤ length rule.shape.edges → IsWithinNumbers (step g plan)
+pub within_numbers : (g : Graph) (rule : Rule) (plan : Plan) → HasRoomFor g rule → length plan.make_objects ≤ length rule.shape.nodes → length plan.make_edges ≤ length rule.shape.edges → IsWithinNumbers (step g plan)
 within_numbers g rule plan room objects edges = (omega (arith, room.objects, objects), omega (arith, room.edges, edges))
 
 pub applied_asks : (m : Metamodel) (g : Graph) (rule : Rule) (f : Match) (plan : Plan) (found : MatchNames) (new : List (List ℕ)) →

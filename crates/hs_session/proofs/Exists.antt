@@ -1,5 +1,5 @@
 -- Of one request there is a serial report.
-use Rattle.std.proofs.Common.{ℕ, ◌≤◌, ◌≡◌, [], ◌∷◌, length, Option, Some, None, slice_get, refl, sym, subst, lit<}
+use Rattle.std.proofs.Common.{ℕ, ◌≡◌, [], ◌∷◌, Option, Some, None, slice_get, refl, lit<}
 use Rattle.std.specs.List.{filter_map}
 use Rattle.hs_types.specs.declared.entry.Cause.{Cause}
 use Rattle.hs_types.specs.declared.entry.Cause.TheVariants as cause
@@ -11,7 +11,6 @@ use Rattle.hs_types.specs.declared.graph.Graph.{Graph}
 use Rattle.hs_types.specs.declared.graph.ListGraph.{ListGraph}
 use Rattle.hs_types.specs.declared.matching.Match.{Match}
 use Rattle.hs_types.specs.declared.meta.Metamodel.{Metamodel}
-use Rattle.hs_types.specs.declared.plan.Plan.{Plan}
 use Rattle.hs_types.specs.declared.request.Request.{Request}
 use Rattle.hs_types.specs.declared.rule.Rule.{Rule}
 use Rattle.hs_types.specs.declared.unit.RuleSet.{RuleSet}
@@ -19,10 +18,9 @@ use Rattle.hs_types.specs.Journal.{OutcomeAsks, after_outcome, meta_of, new_name
 use Rattle.hs_types.specs.Plan.{plan_of}
 use Rattle.hs_types.specs.TypedGraph.{IsTyped, name_at}
 use Rattle.hs_types.specs.ValidMatch.{IsFirst, NoneIsValid}
-use Rattle.hs_finding.specs.FirstMatch.{no_args}
-use Rattle.hs_apply.specs.Additions.{OnlyMakes}
-use Rattle.hs_apply.proofs.Additions.{few_edges, few_objects, plan_adds}
-use Rattle.hs_laws.proofs.Lists.{All-one}
+use Rattle.hs_types.specs.Arguments.{no_args}
+use Rattle.hs_apply.specs.Additions.{AdditionsOnlyMake}
+use Rattle.hs_expr.proofs.Lists.{All-one}
 use Rattle.hs_session.specs.declared.report.Reply.{Reply}
 use Rattle.hs_session.specs.declared.report.Report.{Report}
 use Rattle.hs_session.specs.declared.report.Word.TheVariants as word
@@ -48,28 +46,26 @@ told_missed m g rule none cause.Valid = none
 told_missed m g rule none cause.New = tt
 told_missed m g rule none cause.Old = tt
 
-told : (m : Metamodel) (g : Graph) (rule : Rule) (answer : Option Match) → IsTyped m g → IsRunnable m g rule → IsFirst m g rule no_args answer → (asked : Cause) → OutcomeAsks m g rule no_args (outcome_of m g rule answer) asked
+told : AdditionsOnlyMake → (m : Metamodel) (g : Graph) (rule : Rule) (answer : Option Match) → IsTyped m g → IsRunnable m g rule → IsFirst m g rule no_args answer → (asked : Cause) → OutcomeAsks m g rule no_args (outcome_of m g rule answer) asked
 unfolding outcome_of names_at
-told m g rule None typed runs none = told_missed m g rule none
-told m g rule (Some f) typed runs least =
-    let only : OnlyMakes (plan_of m g rule no_args f) = rw (plan_adds m g rule f runs.only_adds) (record { objects_stay = refl; edges_stay = refl; slots_stay = refl }) in
-    let objects : length (plan_of m g rule no_args f).make_objects ≤ length rule.shape.nodes = subst (λ (p : Plan). length p.make_objects ≤ length rule.shape.nodes) (sym (plan_adds m g rule f runs.only_adds)) (few_objects m rule.shape.nodes) in
-    let edges : length (plan_of m g rule no_args f).make_edges ≤ length rule.shape.edges = subst (λ (p : Plan). length p.make_edges ≤ length rule.shape.edges) (sym (plan_adds m g rule f runs.only_adds)) (few_edges _ rule.shape.edges) in
-    applied_asks m g rule f (plan_of m g rule no_args f) (names_at g f) (new_names g (plan_of m g rule no_args f)) refl only least.valid (named_again m g rule f typed runs.only_adds.multis least.valid) refl (within_numbers g rule (plan_of m g rule no_args f) runs.room objects edges)
+told adds m g rule None typed runs none = told_missed m g rule none
+told adds m g rule (Some f) typed runs least =
+    let made = adds m g rule f runs.only_adds in
+    applied_asks m g rule f (plan_of m g rule no_args f) (names_at g f) (new_names g (plan_of m g rule no_args f)) refl made.0 least.valid (named_again m g rule f typed runs.only_adds.is_unconditional.multis least.valid) refl (within_numbers g rule (plan_of m g rule no_args f) runs.room made.1 made.2)
 
 least_of : (m : Metamodel) (g : Graph) (rule : Rule) (answer : Option Match) → IsTyped m g → IsRunnable m g rule → IsFirst m g rule no_args answer → IsLeastOutcome m g rule no_args (outcome_of m g rule answer)
 unfolding outcome_of names_at
 least_of m g rule None typed runs none = tt
-least_of m g rule (Some f) typed runs least = rw (named_again m g rule f typed runs.only_adds.multis least.valid) least
+least_of m g rule (Some f) typed runs least = rw (named_again m g rule f typed runs.only_adds.is_unconditional.multis least.valid) least
 
 had_memory : (outcome : Outcome) → word_for outcome ≡ word.Memory → ⊥
 had_memory (Applied found new old gone) e = cc
 had_memory Missed e = cc
 
 pub one_exists : (rules : RuleSet) (opening : Graph) (request : Request) (called : ℕ) (rule : Rule) (answer : Option Match) → IsTyped (meta_of rules) opening →
-    rule_named rules request.call ≡ Some called → slice_get rules.rules called ≡ Some rule → IsRunnable (meta_of rules) opening rule → request.args ≡ no_args → IsFirst (meta_of rules) opening rule no_args answer →
+    rule_named rules request.call ≡ Some called → slice_get rules.rules called ≡ Some rule → IsRunnable (meta_of rules) opening rule → request.args ≡ no_args → AdditionsOnlyMake → IsFirst (meta_of rules) opening rule no_args answer →
     (report : Report) × IsSerialReport rules opening ((request ∷ []) ∷ []) report × HadMemory report
-one_exists rules opening request called rule answer typed named found runs args first =
+one_exists rules opening request called rule answer typed named found runs args adds first =
     let outcome = outcome_of (meta_of rules) opening rule answer in
     let tried : Tried = record { attempt = 0; rule = called; args = no_args; outcome = outcome; attempt_bound = lit< tt } in
     let graph : ListGraph = record { meta = rules.meta; graph = after_outcome (meta_of rules) opening rule no_args outcome } in
@@ -80,7 +76,7 @@ one_exists rules opening request called rule answer typed named found runs args 
       tried_args = refl;
       first = refl;
       no_params = runs.no_params;
-      told = told (meta_of rules) opening rule answer typed runs first;
+      told = told adds (meta_of rules) opening rule answer typed runs first;
       least = least_of (meta_of rules) opening rule answer typed runs first;
     } in
     (_, serial_one rules opening request rule tried graph made refl refl, All-one (λ (r : Reply). r.word ≡ word.Memory → ⊥) (first_reply outcome) (had_memory outcome))

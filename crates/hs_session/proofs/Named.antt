@@ -1,10 +1,8 @@
 -- In a typed graph a name leads back to its object.
-use Rattle.std.proofs.Common.{ℕ, ◌≡◌, List, [], ◌∷◌, map, Bool, true, eqb, Some, refl, ap, ◌∙◌, inl, inr}
+use Rattle.std.proofs.Common.{ℕ, ◌≡◌, List, [], ◌∷◌, map, Bool, eqb, Some, refl, ap, ◌∙◌, inl, inr}
 use Rattle.std.specs.List.{All, AllZip, find, filter_map}
 use Rattle.std.specs.Option.{option_map}
 use Rattle.std.proofs.lemmas.Bool.{cases_Bool, eqb-true}
-use Rattle.std.proofs.lemmas.Cmp.{nat_list_eq_equiv}
-use Rattle.std.specs.Cmp.Lexicographic.{bytes_decides}
 use Rattle.std.proofs.lemmas.List.Elements.{All-head, All-tail}
 use Rattle.hs_types.specs.declared.graph.Graph.{Graph}
 use Rattle.hs_types.specs.declared.graph.Object.{Object}
@@ -16,20 +14,15 @@ use Rattle.hs_types.specs.declared.rule.PatternNode.{PatternNode}
 use Rattle.hs_types.specs.declared.rule.Rule.{Rule}
 use Rattle.hs_types.specs.Copies.{AreCopies}
 use Rattle.hs_types.specs.Journal.{match_named}
-use Rattle.hs_types.specs.Lists.{Differ, map_all, same_text}
+use Rattle.hs_expr.specs.Lists.{Differ, map_all, same_text}
 use Rattle.hs_types.specs.Pattern.{left_nodes}
 use Rattle.hs_types.specs.PlainMatch.{kernel_of}
 use Rattle.hs_types.specs.TypedGraph.{IsOf, IsTyped, name_at, object_at, object_named}
 use Rattle.hs_types.specs.ValidMatch.{IsValid}
-use Rattle.hs_finding.specs.FirstMatch.{no_args}
-use Rattle.hs_laws.proofs.Kept.{object_there}
-use Rattle.hs_laws.proofs.Lists.{All-find, All-of_map, AllZip-right, find-passes}
-
-same_text-itself : (t : List ℕ) → same_text t t ≡ true
-same_text-itself t = nat_list_eq_equiv.refl t
-
-pub same_text-same : (s t : List ℕ) → same_text s t ≡ true → s ≡ t
-same_text-same s t e = (bytes_decides s t).0 e
+use Rattle.hs_types.specs.Arguments.{no_args}
+use Rattle.hs_types.proofs.Lookups.{object_there}
+use Rattle.hs_expr.proofs.Items.{same_text-itself, text_same}
+use Rattle.hs_expr.proofs.Lists.{All-find, All-of_map, AllZip-right, find-passes}
 
 -- What is found is found again by its text, where texts differ.
 found_again : {A : Type 0} (f : A → List ℕ) (p : A → Bool) (xs : List A) (x : A) → Differ (map f xs) → find p xs ≡ Some x → find (λ y. same_text (f y) (f x)) xs ≡ Some x
@@ -39,7 +32,7 @@ found_again {A} f p (y ∷ ys) x differ e = elim (cases_Bool (p y)) [
   | inr fails ↦ let there : find p ys ≡ Some x = rw fails at e in
       let apart : f y ≡ f x → ⊥ = All-find (λ (z : A). f y ≡ f z → ⊥) p ys x (All-of_map (λ t. f y ≡ t → ⊥) f ys differ.0) there in
       elim (cases_Bool (same_text (f y) (f x))) [
-        | inl same ↦ absurd (apart (same_text-same (f y) (f x) same))
+        | inl same ↦ absurd (apart (text_same (f y) (f x) same))
         | inr other ↦ rw other (found_again f p ys x differ.1 there)
       ]
 ]

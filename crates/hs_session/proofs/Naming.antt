@@ -9,10 +9,11 @@ use Rattle.hs_types.specs.declared.matching.Extension.{Extension}
 use Rattle.hs_types.specs.declared.matching.Match.{Match}
 use Rattle.hs_types.specs.declared.meta.Metamodel.{Metamodel}
 use Rattle.hs_types.specs.Journal.{extension_named, match_named}
-use Rattle.hs_types.specs.Lists.{map_all, same_text}
+use Rattle.hs_expr.proofs.Items.{option_map-some}
+use Rattle.hs_expr.specs.Lists.{map_all, same_text}
 use Rattle.hs_types.specs.TypedGraph.{IsTyped, object_named}
-use Rattle.hs_laws.proofs.Lists.{All-find, Rise-at, find-passes}
-use Rattle.hs_session.proofs.Named.{same_text-same}
+use Rattle.hs_expr.proofs.Lists.{All-find, Rise-at, find-passes}
+use Rattle.hs_expr.proofs.Items.{text_same}
 
 pub some-same : {A : Type 0} {x y : A} → Some x ≡ Some y → x ≡ y
 some-same e = cc
@@ -20,10 +21,6 @@ some-same e = cc
 -- No two items give the same.
 abbrev pub Injective : {A B : Type 0} → (A → Option B) → Type 0
 Injective {A} {B} f = (x y : A) (z : B) → f x ≡ Some z → f y ≡ Some z → x ≡ y
-
-map-some : {A B : Type 0} (f : A → B) (o : Option A) (z : B) → option_map f o ≡ Some z → (x : A) × (o ≡ Some x) × (f x ≡ z)
-map-some f None z e = absurd (cc)
-map-some f (Some x) z e = (x, refl, some-same e)
 
 all_parts : {A B : Type 0} (f : A → Option B) (x : A) (xs : List A) (zs : List B) → map_all f (x ∷ xs) ≡ Some zs → (z : B) × (rest : List B) × (f x ≡ Some z) × (map_all f xs ≡ Some rest) × (zs ≡ z ∷ rest)
 all_parts {A} {B} f x xs zs e = go (f x) (map_all f xs) refl refl e
@@ -53,17 +50,17 @@ map_all-injective f one (x ∷ xs) (y ∷ ys) zs p q =
 
 object_named-injective : (m : Metamodel) (g : Graph) → IsTyped m g → Injective (object_named g)
 object_named-injective m g typed s t n p q =
-    let here = map-some (λ (o : Object). o.number) (find (λ o. same_text o.name s) g.objects) n p in
-    let there = map-some (λ (o : Object). o.number) (find (λ o. same_text o.name t) g.objects) n q in
+    let here = option_map-some (λ (o : Object). o.number) (find (λ o. same_text o.name s) g.objects) n p in
+    let there = option_map-some (λ (o : Object). o.number) (find (λ o. same_text o.name t) g.objects) n q in
     let x_at : find (λ o. eqb o.number here.0.number) g.objects ≡ Some here.0 = (All-find (λ (x : Object). (0 ≤ x.number) × (find (λ y. eqb y.number x.number) g.objects ≡ Some x)) (λ (o : Object). same_text o.name s) g.objects here.0 (Rise-at (λ (o : Object). o.number) 0 g.objects g.next_object typed.objects_rise) here.1).1 in
     let y_at : find (λ o. eqb o.number there.0.number) g.objects ≡ Some there.0 = (All-find (λ (x : Object). (0 ≤ x.number) × (find (λ y. eqb y.number x.number) g.objects ≡ Some x)) (λ (o : Object). same_text o.name t) g.objects there.0 (Rise-at (λ (o : Object). o.number) 0 g.objects g.next_object typed.objects_rise) there.1).1 in
     let same : here.0 ≡ there.0 = some-same (sym x_at ∙ ap (λ k. find (λ o. eqb o.number k) g.objects) (here.2 ∙ sym there.2) ∙ y_at) in
-    sym (same_text-same here.0.name s (find-passes (λ (o : Object). same_text o.name s) g.objects here.0 here.1)) ∙ ap (λ (o : Object). o.name) same ∙ same_text-same there.0.name t (find-passes (λ (o : Object). same_text o.name t) g.objects there.0 there.1)
+    sym (text_same here.0.name s (find-passes (λ (o : Object). same_text o.name s) g.objects here.0 here.1)) ∙ ap (λ (o : Object). o.name) same ∙ text_same there.0.name t (find-passes (λ (o : Object). same_text o.name t) g.objects there.0 there.1)
 
 extension_named-injective : (m : Metamodel) (g : Graph) → IsTyped m g → Injective (extension_named g)
 extension_named-injective m g typed x y z p q =
-    let here = map-some (λ (ns : List ℕ). record { nodes = ns; edges = x.edges }) (map_all (object_named g) x.nodes) z p in
-    let there = map-some (λ (ns : List ℕ). record { nodes = ns; edges = y.edges }) (map_all (object_named g) y.nodes) z q in
+    let here = option_map-some (λ (ns : List ℕ). record { nodes = ns; edges = x.edges }) (map_all (object_named g) x.nodes) z p in
+    let there = option_map-some (λ (ns : List ℕ). record { nodes = ns; edges = y.edges }) (map_all (object_named g) y.nodes) z q in
     let numbers : here.0 ≡ there.0 = ap (λ (e : Extension). e.nodes) (here.2 ∙ sym there.2) in
     let names : x.nodes ≡ y.nodes = map_all-injective (object_named g) (object_named-injective m g typed) x.nodes y.nodes there.0 (here.1 ∙ ap Some numbers) there.1 in
     let edges : x.edges ≡ y.edges = ap (λ (e : Extension). e.edges) (here.2 ∙ sym there.2) in

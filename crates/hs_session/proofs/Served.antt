@@ -19,8 +19,8 @@ use Rattle.hs_types.specs.declared.rule.Rule.{Rule}
 use Rattle.hs_types.specs.declared.unit.RuleSet.{RuleSet}
 use Rattle.hs_types.specs.Arguments.{ArgsFit}
 use Rattle.hs_types.specs.Journal.{IsLawfulEntry, IsLawfulTry, OutcomeAsks, after_journal, after_outcome, match_named, meta_of, rule_of, tries_in}
-use Rattle.hs_finding.specs.FirstMatch.{no_args}
-use Rattle.hs_laws.proofs.Lists.{All-one}
+use Rattle.hs_types.specs.Arguments.{no_args}
+use Rattle.hs_expr.proofs.Lists.{All-one}
 use Rattle.hs_session.specs.declared.report.Reply.{Reply}
 use Rattle.hs_session.specs.Answers.{IsFor, Says, course_of, rule_named}
 use Rattle.hs_session.specs.LawfulReport.{IsAnswer, IsAsked, IsSingle, outs_at, outs_by_word, outs_of_outcome}

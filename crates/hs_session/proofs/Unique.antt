@@ -26,7 +26,6 @@ use Rattle.hs_types.specs.Plan.{plan_of}
 use Rattle.hs_types.specs.Step.{step}
 use Rattle.hs_types.specs.TypedGraph.{IsTyped}
 use Rattle.hs_types.specs.ValidMatch.{IsLeast, IsValid}
-use Rattle.hs_laws.proofs.Earlier.{IsLeast-same}
 use Rattle.hs_session.specs.declared.report.Reply.{Reply}
 use Rattle.hs_session.specs.declared.report.Report.{Report}
 use Rattle.hs_session.specs.declared.report.Word.{Word}
@@ -43,21 +42,25 @@ tried-same s t a r x o = λ i. record { attempt = a i; rule = r i; args = x i; o
     bounded : (n : ℕ) → IsProp (n < 2 ^ 63)
     bounded n = hlevel (le_prop)
 
+-- There is one least valid match at most.
+abbrev LeastIsOne : Type 0
+LeastIsOne = (m : Metamodel) (g : Graph) (rule : Rule) (args : Args) (f h : Match) → IsLeast m g rule args f → IsLeast m g rule args h → f ≡ h
+
 -- Two outcomes of an attempt at the least match.
-outcome-same : (m : Metamodel) (g : Graph) (rule : Rule) (args : Args) (a b : Outcome) → IsTyped m g →
+outcome-same : LeastIsOne → (m : Metamodel) (g : Graph) (rule : Rule) (args : Args) (a b : Outcome) → IsTyped m g →
     ((asked : Cause) → OutcomeAsks m g rule args a asked) → ((asked : Cause) → OutcomeAsks m g rule args b asked) → IsLeastOutcome m g rule args a → IsLeastOutcome m g rule args b → a ≡ b
-outcome-same m g rule args Missed Missed typed p q l k = refl
-outcome-same m g rule args Missed (Applied found new old gone) typed p q l k = absurd (valid_not (match_named g found) (q cause.Match) (p cause.Valid))
+outcome-same one m g rule args Missed Missed typed p q l k = refl
+outcome-same one m g rule args Missed (Applied found new old gone) typed p q l k = absurd (valid_not (match_named g found) (q cause.Match) (p cause.Valid))
   where
     valid_not : (o : Option Match) → IsSomeAnd o (IsValid m g rule args) → ((f : Match) → IsValid m g rule args f → ⊥) → ⊥
     valid_not None v none = v
     valid_not (Some f) v none = none f v
-outcome-same m g rule args (Applied found new old gone) Missed typed p q l k = absurd (valid_not (match_named g found) (p cause.Match) (q cause.Valid))
+outcome-same one m g rule args (Applied found new old gone) Missed typed p q l k = absurd (valid_not (match_named g found) (p cause.Match) (q cause.Valid))
   where
     valid_not : (o : Option Match) → IsSomeAnd o (IsValid m g rule args) → ((f : Match) → IsValid m g rule args f → ⊥) → ⊥
     valid_not None v none = v
     valid_not (Some f) v none = none f v
-outcome-same m g rule args (Applied found new old gone) (Applied found' new' old' gone') typed p q l k =
+outcome-same one m g rule args (Applied found new old gone) (Applied found' new' old' gone') typed p q l k =
     go (match_named g found) (match_named g found') refl refl (p cause.Match) (q cause.Match) l k (p cause.New) (q cause.New) (p cause.Old) (q cause.Old)
   where
     go : (o o' : Option Match) → match_named g found ≡ o → match_named g found' ≡ o' → IsSomeAnd o (IsValid m g rule args) → IsSomeAnd o' (IsValid m g rule args) → IfSome o (IsLeast m g rule args) → IfSome o' (IsLeast m g rule args) →
@@ -69,7 +72,7 @@ outcome-same m g rule args (Applied found new old gone) (Applied found' new' old
     go None o' e e' v v' l k n n' w w' = absurd v
     go (Some f) None e e' v v' l k n n' w w' = absurd v'
     go (Some f) (Some h) e e' v v' l k n n' w w' =
-        let same : f ≡ h = IsLeast-same m g rule args f h l k in
+        let same : f ≡ h = one m g rule args f h l k in
         let names : found ≡ found' = match_named-injective m g typed found found' h (e ∙ ap Some same) e' in
         let news : new ≡ new' = n.0 ∙ ap (λ (x : Match). new_names g (plan_of m g rule args x)) same ∙ sym n'.0 in
         let olds : old ≡ old' = w.0 ∙ ap (λ (x : Match). old_values g (plan_of m g rule args x)) same ∙ sym w'.0 in
@@ -190,8 +193,8 @@ there_is_rule rules g t lawful = go (rule_of rules t) refl (lawful cause.Rule)
     go None e none = absurd none
     go (Some rule) e some = (rule, e)
 
-try-same : (rules : RuleSet) (opening : Graph) (request : Request) (journal journal' : List Entry) (s t : Tried) → IsTyped (meta_of rules) opening → IsTheTry rules opening request journal s → IsTheTry rules opening request journal' t → s ≡ t
-try-same rules opening request journal journal' s t typed a b =
+try-same : LeastIsOne → (rules : RuleSet) (opening : Graph) (request : Request) (journal journal' : List Entry) (s t : Tried) → IsTyped (meta_of rules) opening → IsTheTry rules opening request journal s → IsTheTry rules opening request journal' t → s ≡ t
+try-same one rules opening request journal journal' s t typed a b =
     let rule_no : s.rule ≡ t.rule = some-same (sym a.is_for.rule ∙ b.is_for.rule) in
     let args : s.args ≡ t.args = a.is_for.args ∙ sym b.is_for.args in
     let rule = there_is_rule rules opening s a.lawful in
@@ -199,7 +202,7 @@ try-same rules opening request journal journal' s t typed a b =
     let told_t : (asked : Cause) → OutcomeAsks (meta_of rules) opening rule.0 s.args t.outcome asked = subst (λ (x : Args). (asked : Cause) → OutcomeAsks (meta_of rules) opening rule.0 x t.outcome asked) (sym args) (told rules opening t rule.0 rule' b.lawful) in
     let least_s : IsLeastOutcome (meta_of rules) opening rule.0 s.args s.outcome = subst (λ (o : Option Rule). IfSome o (λ rule. IsLeastOutcome (meta_of rules) opening rule s.args s.outcome)) rule.1 a.least in
     let least_t : IsLeastOutcome (meta_of rules) opening rule.0 s.args t.outcome = subst (λ (x : Args). IsLeastOutcome (meta_of rules) opening rule.0 x t.outcome) (sym args) (subst (λ (o : Option Rule). IfSome o (λ rule. IsLeastOutcome (meta_of rules) opening rule t.args t.outcome)) rule' b.least) in
-    tried-same s t (a.first ∙ sym b.first) rule_no args (outcome-same (meta_of rules) opening rule.0 s.args s.outcome t.outcome typed (told rules opening s rule.0 rule.1 a.lawful) told_t least_s least_t)
+    tried-same s t (a.first ∙ sym b.first) rule_no args (outcome-same one (meta_of rules) opening rule.0 s.args s.outcome t.outcome typed (told rules opening s rule.0 rule.1 a.lawful) told_t least_s least_t)
 
 one_reply : (request : Request) (P : Asked → Reply → Type 0) (replies : List Reply) → AllZip P (the_first request ∷ []) replies → (r : Reply) × (replies ≡ r ∷ []) × P (the_first request) r
 one_reply request P [] z = absurd z
@@ -207,17 +210,17 @@ one_reply request P (r ∷ []) z = (r, refl, z.0)
 one_reply request P (r ∷ s ∷ more) z = absurd z.1
 
 -- Two serial reports in which nothing wanted for memory are one.
-pub one_report : (rules : RuleSet) (opening : Graph) (request : Request) (a b : Report) → IsTyped (meta_of rules) opening →
+pub one_report : LeastIsOne → (rules : RuleSet) (opening : Graph) (request : Request) (a b : Report) → IsTyped (meta_of rules) opening →
     IsSerialReport rules opening ((request ∷ []) ∷ []) a → IsSerialReport rules opening ((request ∷ []) ∷ []) b → HadMemory a → HadMemory b →
     (a.journal ≡ b.journal) × (a.replies ≡ b.replies) × (a.graph.graph ≡ b.graph.graph)
-one_report rules opening request a b typed sa sb ma mb =
+one_report one rules opening request a b typed sa sb ma mb =
     let ra = one_reply request (IsAnswer rules opening a.journal) a.replies sa.lawful.answered in
     let rb = one_reply request (IsAnswer rules opening b.journal) b.replies sb.lawful.answered in
     let ha : ra.0.word ≡ word.Memory → ⊥ = All-head (λ (r : Reply). r.word ≡ word.Memory → ⊥) ra.0 [] (subst (All (λ (r : Reply). r.word ≡ word.Memory → ⊥)) ra.1 ma) in
     let hb : rb.0.word ≡ word.Memory → ⊥ = All-head (λ (r : Reply). r.word ≡ word.Memory → ⊥) rb.0 [] (subst (All (λ (r : Reply). r.word ≡ word.Memory → ⊥)) rb.1 mb) in
     let ta = the_try rules opening request a.journal ra.0 sa.lawful.lawful sa.lawful.all_were_asked sa.least ra.2 ha in
     let tb = the_try rules opening request b.journal rb.0 sb.lawful.lawful sb.lawful.all_were_asked sb.least rb.2 hb in
-    let same : ta.0 ≡ tb.0 = try-same rules opening request a.journal b.journal ta.0 tb.0 typed ta.1 tb.1 in
+    let same : ta.0 ≡ tb.0 = try-same one rules opening request a.journal b.journal ta.0 tb.0 typed ta.1 tb.1 in
     let journals : a.journal ≡ b.journal = ta.1.journal_is ∙ ap (λ (t : Tried). record { session = 0; request = 0; what = One t } ∷ []) same ∙ sym tb.1.journal_is in
     let words : ra.0.word ≡ rb.0.word = ta.2 ∙ ap (λ (t : Tried). word_for t.outcome) same ∙ sym tb.2 in
     let places : ra.0.places ≡ rb.0.places = ra.2.at_places ∙ ap (λ (js : List Entry). map (λ placed. placed.0) (entries_of (the_first request) js)) journals ∙ sym rb.2.at_places in

@@ -1,19 +1,21 @@
 -- What a run asks of a rule that it applies once, without arguments.
 use Rattle.std.specs.Prelude.{◌+◌, ◌^◌, ◌≤◌, ◌≡◌, [], length}
+use Rattle.hs_types.specs.declared.limits.TheConstants.{MAX_NUMBERS}
 use Rattle.hs_types.specs.declared.entry.Outcome.{Outcome}
 use Rattle.hs_types.specs.declared.entry.Outcome.TheVariants.{Applied, Missed}
 use Rattle.hs_types.specs.declared.graph.Graph.{Graph}
 use Rattle.hs_types.specs.declared.meta.Metamodel.{Metamodel}
 use Rattle.hs_types.specs.declared.rule.Rule.{Rule}
 use Rattle.hs_types.specs.RuleForm.{IsRule}
-use Rattle.hs_finding.specs.FirstMatch.{IsSmall, OnlyAdds}
+use Rattle.hs_types.specs.Additions.{OnlyAdds}
+use Rattle.hs_match.specs.FirstMatch.{IsSmall}
 use Rattle.hs_session.specs.declared.report.Word.{Word}
 use Rattle.hs_session.specs.declared.report.Word.TheVariants as word
 
 -- Numbers and names are left for what the rule makes.
-pub record HasRoom (g : Graph) (rule : Rule) : Type 0 where
-  pub objects : g.next_object + length rule.shape.nodes ≤ 1000000000
-  pub edges : g.next_edge + length rule.shape.edges ≤ 1000000000
+pub record HasRoomFor (g : Graph) (rule : Rule) : Type 0 where
+  pub objects : g.next_object + length rule.shape.nodes ≤ MAX_NUMBERS
+  pub edges : g.next_edge + length rule.shape.edges ≤ MAX_NUMBERS
   pub names : g.next_name + length rule.shape.nodes ≤ 2 ^ 63
 
 -- A rule of the metamodel, without parameters, that only adds; few enough elements for a search, and room for what it makes.
@@ -22,7 +24,7 @@ pub record IsRunnable (m : Metamodel) (g : Graph) (rule : Rule) : Type 0 where
   pub no_params : rule.params ≡ []
   pub only_adds : OnlyAdds rule
   pub small : IsSmall rule.shape
-  pub room : HasRoom g rule
+  pub room : HasRoomFor g rule
 
 -- The word on an attempt that was made.
 abbrev pub word_for : Outcome → Word

@@ -12,7 +12,7 @@ use Rattle.hs_types.specs.declared.request.Request.{Request}
 use Rattle.hs_types.specs.declared.rule.Rule.{Rule}
 use Rattle.hs_types.specs.declared.unit.RuleSet.{RuleSet}
 use Rattle.hs_types.specs.Journal.{after_journal, after_try, match_named, meta_of, rule_of, tries_in}
-use Rattle.hs_types.specs.Lists.{EachPair}
+use Rattle.hs_expr.specs.Lists.{EachPair}
 use Rattle.hs_types.specs.ValidMatch.{IsLeast}
 use Rattle.hs_session.specs.declared.report.Report.{Report}
 use Rattle.hs_session.specs.declared.report.Word.TheVariants as word

@@ -3,14 +3,16 @@ ghost use Rattle.std.specs.Arc.{arc_value};
 ghost use Rattle.hs_types.specs.Journal.{meta_of};
 ghost use Rattle.hs_types.specs.Metamodel.{IsMeta};
 ghost use Rattle.hs_types.specs.TypedGraph.{IsTyped};
-ghost use Rattle.hs_finding.specs.FirstMatch.{no_args};
+ghost use Rattle.hs_types.specs.Arguments.{no_args};
 ghost use Rattle.hs_session.specs.declared.report.Report.{Report};
 ghost use Rattle.hs_session.specs.Answers.{rule_named};
 ghost use Rattle.hs_session.specs.Runnable.{IsRunnable};
 ghost use Rattle.hs_session.specs.SerialReport.{HadMemory, IsSerialReport};
 
 use crate::serial::rule_at;
-use hs_finding::is_applicable;
+use hs_apply::laws::additions_only_make;
+use hs_laws::least_is_unique;
+use hs_match::is_applicable;
 use hs_types::{ListGraph, Request, RuleSet};
 
 /// One request of one session, as [`run_serial`](crate::run_serial) takes it, has exactly one serial
@@ -27,6 +29,8 @@ pub fn one_serial_report(graph: &ListGraph, rules: &RuleSet, called: u16, reques
     ensures one { (a b : Report) → IsSerialReport rules.now graph.now.graph ((request.now ∷ []) ∷ []) a → IsSerialReport rules.now graph.now.graph ((request.now ∷ []) ∷ []) b → HadMemory a → HadMemory b
         → (a.journal ≡ b.journal) × (a.replies ≡ b.replies) × (a.graph.graph ≡ b.graph.graph) }
 {
+    least_is_unique();
+    additions_only_make();
     // The search takes no memory, so its answer is always there.
     let _ = is_applicable(&graph.meta, &graph.graph, rule_at(rules, called));
 }

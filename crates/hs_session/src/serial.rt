@@ -1,12 +1,13 @@
-ghost use Rattle.std.specs.Prelude.{◌≡◌, ◌∷◌, [], IfOk, IsSome, IsSomeAnd, Some, option_copied, slice_get};
+ghost use Rattle.std.specs.Prelude.{◌≡◌, ◌∷◌, [], IfOk, IsSome, IsSomeAnd, Some, slice_get};
 ghost use Rattle.std.specs.Arc.{arc_value};
 ghost use Rattle.std.specs.List.{All, filter_map};
 ghost use Rattle.hs_types.specs.declared.entry.Cause.{Cause};
 ghost use Rattle.hs_types.specs.Journal.{OutcomeAsks, after_outcome, match_named, meta_of};
 ghost use Rattle.hs_types.specs.Metamodel.{IsMeta};
-ghost use Rattle.hs_types.specs.TypedGraph.{IsTyped, name_at, object_at};
+ghost use Rattle.hs_types.specs.TypedGraph.{IsTyped, name_at};
 ghost use Rattle.hs_types.specs.ValidMatch.{IsLeast, IsValid};
-ghost use Rattle.hs_finding.specs.FirstMatch.{OnlyAdds, no_args};
+ghost use Rattle.hs_types.specs.Arguments.{no_args};
+ghost use Rattle.hs_types.specs.Additions.{OnlyAdds};
 ghost use Rattle.hs_session.specs.Answers.{rule_named};
 ghost use Rattle.hs_session.specs.Runnable.{IsRunnable, word_for};
 ghost use Rattle.hs_session.specs.SerialReport.{IsLeastOutcome, IsSerialReport};
@@ -14,10 +15,11 @@ ghost use Rattle.hs_session.specs.SerialReport.{IsLeastOutcome, IsSerialReport};
 use crate::report::{Reply, Report, Word};
 use hs_apply::{Stepped, install, plan};
 use hs_expr::{List, Text};
-use hs_finding::first_match;
+use hs_laws::plans_fit;
+use hs_match::first_match;
 use hs_types::{
-    Entry, Graph, ListGraph, Match, MatchNames, Meta, Object, ObjectNo, Outcome, Request, Rule,
-    RuleSet, Tried, What,
+    Entry, Graph, ListGraph, Match, MatchNames, Meta, ObjectNo, Outcome, Request, Rule, RuleSet,
+    Tried, What,
 };
 use std::alloc::{AllocError, Global};
 
@@ -159,6 +161,8 @@ fn applied(
     ensures least { IfOk result (λ a. IsLeastOutcome meta.now graph rule.now no_args a.outcome) }
     ensures after { IfOk result (λ a. a.graph ≡ after_outcome meta.now graph rule.now no_args a.outcome) }
 {
+    // The laws on plans are what `install` asks.
+    plans_fit();
     let plan = plan(alloc, meta, rule, &found)?;
     let found = names_of_match(alloc, meta, &graph, rule, found)?;
     let Stepped { graph, new } = install(alloc, graph, &plan)?;
@@ -197,15 +201,9 @@ fn names_of(alloc: Global, graph: &Graph, numbers: &[ObjectNo]) -> Result<List<T
 {
     let mut names = List::new(alloc);
     for number in numbers {
-        if let Some(object) = object_at(graph, *number) {
-            names.push(object.name.clone()?)?;
+        if let Some(name) = graph.name_of(*number) {
+            names.push(Text::from_str(alloc, name)?)?;
         }
     }
     Ok(names)
-}
-
-fn object_at(graph: &Graph, number: ObjectNo) -> Option<&Object>
-    ensures { option_copied result ≡ object_at graph.now number }
-{
-    graph.objects.iter().find(|object| object.number == number)
 }

@@ -1,12 +1,15 @@
-use Rattle.std.proofs.Common.{ℕ, ◌+◌, ◌-◌, ◌<◌, ◌≤◌, ◌≡◌, ◌⊎◌, inl, inr, List, [], ◌∷◌, ◌++◌, length, take, get_or, Bool, true, false, Option, Some, None, is_some, unwrap_or, codes, refl, ap, sym, subst, ◌∙◌, append_assoc, arith}
+use Rattle.std.proofs.Common.{ℕ, ◌+◌, ◌-◌, ◌<◌, ◌≤◌, ◌≡◌, ◌⊎◌, inl, inr, List, [], ◌∷◌, ◌++◌, length, take, get_or, Bool, true, false, Option, Some, None, unwrap_or, codes, refl, ap, sym, subst, ◌∙◌, append_assoc, arith}
 use Rattle.std.specs.List.{concat}
 use Rattle.std.proofs.lemmas.List.{append-nil, take_more, same_from_push}
 use Rattle.hs_expr.specs.declared.Piece.{Piece}
 use Rattle.hs_expr.specs.declared.Piece.TheVariants as piece
 use Rattle.hs_text.specs.declared.arranging.Task.{Task}
 use Rattle.hs_text.specs.declared.arranging.Task.TheVariants.{Text, Expr}
-use Rattle.hs_text.specs.Trees.{Tree, Leaf, Not, Minus, Binary, tree_of, postfix}
-use Rattle.hs_text.specs.Canonical.{piece_text, operand, tree_text, grown_text}
+use Rattle.hs_expr.specs.declared.NameExpr.{NameExpr}
+use Rattle.hs_expr.specs.Trees.{Tree, Leaf, Not, Minus, Binary, postfix}
+use Rattle.hs_expr.specs.NameExprs.{expr_tree}
+use Rattle.hs_expr.proofs.OneTree.{tree-found}
+use Rattle.hs_text.specs.Canonical.{piece_text, operand, tree_text, expr_text}
 use Rattle.hs_text.specs.Arranging.{next_expr, below_expr, before_expr, tasks_after, texts_after}
 use Rattle.hs_text.proofs.Grown.{IsLeaf, IsProper, tree-holds}
 
@@ -25,14 +28,12 @@ pub data Owed : List Task → List Piece → List ℕ → Type 0 where
 abbrev pub IsArranged : List Piece → List Task → List (List ℕ) → List ℕ → Type 0
 IsArranged left tasks texts whole = (before : List ℕ) × Owed tasks left before × (before ++ concat texts ≡ whole)
 
-pub arranged-first : (pieces : List Piece) (tasks : List Task) (texts : List (List ℕ)) → is_some (tree_of pieces) ≡ true → tasks ≡ Expr false ∷ [] → texts ≡ [] → IsArranged pieces tasks texts (grown_text (tree_of pieces))
-arranged-first pieces tasks texts h e f = step (tree_of pieces) refl h where
-  step : (o : Option Tree) → tree_of pieces ≡ o → is_some o ≡ true → IsArranged pieces tasks texts (grown_text o)
-  step None w h = cc
-  step (Some a) w h =
-      let t = tree-holds pieces a w in
-      subst (λ x. IsArranged x tasks texts (tree_text a)) t.1 (subst (λ x. IsArranged (postfix a) x texts (tree_text a)) (sym e) (subst (λ x. IsArranged (postfix a) (Expr false ∷ []) x (tree_text a)) (sym f)
-      (tree_text a, an_expr false a t.0 all_done, append-nil (tree_text a))))
+pub arranged-first : (e : NameExpr) (pieces : List Piece) (tasks : List Task) (texts : List (List ℕ)) → pieces ≡ e.pieces → tasks ≡ Expr false ∷ [] → texts ≡ [] → IsArranged pieces tasks texts (expr_text e)
+arranged-first e pieces tasks texts same f g =
+    let a = expr_tree e in
+    let t = tree-holds e.pieces a (tree-found e) in
+    subst (λ x. IsArranged x tasks texts (tree_text a)) (t.1 ∙ sym same) (subst (λ x. IsArranged (postfix a) x texts (tree_text a)) (sym f) (subst (λ x. IsArranged (postfix a) (Expr false ∷ []) x (tree_text a)) (sym g)
+    (tree_text a, an_expr false a t.0 all_done, append-nil (tree_text a))))
 
 -- the next expression, with what comes before it
 record Next (tasks : List Task) (ps : List Piece) (texts : List (List ℕ)) (whole : List ℕ) : Type 0 where

@@ -2,9 +2,10 @@ use Rattle.std.proofs.Common.{◌≡◌, List, [], ◌∷◌, ◌++◌, Option, 
 use Rattle.std.specs.Bool.{⊤}
 use Rattle.std.specs.Option.{option_and_then}
 use Rattle.std.proofs.lemmas.List.{append-nil}
+use Rattle.std.proofs.lemmas.Option.{same_Some}
 use Rattle.hs_expr.specs.declared.Piece.{Piece}
 use Rattle.hs_expr.specs.declared.Piece.TheVariants as piece
-use Rattle.hs_text.specs.Trees.{Tree, Leaf, Not, Minus, Binary, planted, grown, alone, tree_of, postfix}
+use Rattle.hs_expr.specs.Trees.{Tree, Leaf, Not, Minus, Binary, trees_after_piece, trees_after, only_tree, tree_of, postfix}
 
 -- TREES AND THEIR PIECES
 
@@ -33,29 +34,26 @@ pieces (a ∷ trees) = pieces trees ++ postfix a
 abbrev Holds : List Tree → List Piece → List Tree → Type 0
 Holds trees ps more = AreProper more × (pieces more ≡ pieces trees ++ ps)
 
-some-same : (x y : List Tree) → Some x ≡ Some y → x ≡ y
-some-same x y e = cc
-
-one-more : (p : Piece) (trees more : List Tree) → AreProper trees → planted p trees ≡ Some more → Holds trees (p ∷ []) more
-one-more (piece.Int value span) trees more h e = subst (Holds trees (piece.Int value span ∷ [])) (some-same (Leaf (piece.Int value span) ∷ trees) more e) ((tt, h), refl)
-one-more (piece.Text value span) trees more h e = subst (Holds trees (piece.Text value span ∷ [])) (some-same (Leaf (piece.Text value span) ∷ trees) more e) ((tt, h), refl)
-one-more (piece.Bool value span) trees more h e = subst (Holds trees (piece.Bool value span ∷ [])) (some-same (Leaf (piece.Bool value span) ∷ trees) more e) ((tt, h), refl)
-one-more (piece.Name name) trees more h e = subst (Holds trees (piece.Name name ∷ [])) (some-same (Leaf (piece.Name name) ∷ trees) more e) ((tt, h), refl)
-one-more (piece.Slot node attribute) trees more h e = subst (Holds trees (piece.Slot node attribute ∷ [])) (some-same (Leaf (piece.Slot node attribute) ∷ trees) more e) ((tt, h), refl)
+one-more : (p : Piece) (trees more : List Tree) → AreProper trees → trees_after_piece p trees ≡ Some more → Holds trees (p ∷ []) more
+one-more (piece.Int value span) trees more h e = subst (Holds trees (piece.Int value span ∷ [])) (same_Some (Leaf (piece.Int value span) ∷ trees) more e) ((tt, h), refl)
+one-more (piece.Text value span) trees more h e = subst (Holds trees (piece.Text value span ∷ [])) (same_Some (Leaf (piece.Text value span) ∷ trees) more e) ((tt, h), refl)
+one-more (piece.Bool value span) trees more h e = subst (Holds trees (piece.Bool value span ∷ [])) (same_Some (Leaf (piece.Bool value span) ∷ trees) more e) ((tt, h), refl)
+one-more (piece.Name name) trees more h e = subst (Holds trees (piece.Name name ∷ [])) (same_Some (Leaf (piece.Name name) ∷ trees) more e) ((tt, h), refl)
+one-more (piece.Slot node attribute) trees more h e = subst (Holds trees (piece.Slot node attribute ∷ [])) (same_Some (Leaf (piece.Slot node attribute) ∷ trees) more e) ((tt, h), refl)
 one-more (piece.Not span) [] more h e = cc
-one-more (piece.Not span) (a ∷ trees) more h e = subst (Holds (a ∷ trees) (piece.Not span ∷ [])) (some-same (Not span a ∷ trees) more e) (h, sym (append_assoc (pieces trees) (postfix a) (piece.Not span ∷ [])))
+one-more (piece.Not span) (a ∷ trees) more h e = subst (Holds (a ∷ trees) (piece.Not span ∷ [])) (same_Some (Not span a ∷ trees) more e) (h, sym (append_assoc (pieces trees) (postfix a) (piece.Not span ∷ [])))
 one-more (piece.Minus span) [] more h e = cc
-one-more (piece.Minus span) (a ∷ trees) more h e = subst (Holds (a ∷ trees) (piece.Minus span ∷ [])) (some-same (Minus span a ∷ trees) more e) (h, sym (append_assoc (pieces trees) (postfix a) (piece.Minus span ∷ [])))
+one-more (piece.Minus span) (a ∷ trees) more h e = subst (Holds (a ∷ trees) (piece.Minus span ∷ [])) (same_Some (Minus span a ∷ trees) more e) (h, sym (append_assoc (pieces trees) (postfix a) (piece.Minus span ∷ [])))
 one-more (piece.Binary sign span) [] more h e = cc
 one-more (piece.Binary sign span) (a ∷ []) more h e = cc
 one-more (piece.Binary sign span) (b ∷ a ∷ trees) more h e =
-    subst (Holds (b ∷ a ∷ trees) (piece.Binary sign span ∷ [])) (some-same (Binary sign span a b ∷ trees) more e)
+    subst (Holds (b ∷ a ∷ trees) (piece.Binary sign span ∷ [])) (same_Some (Binary sign span a b ∷ trees) more e)
     (((h.1.0, h.0), h.1.1), sym (append_assoc (pieces trees ++ postfix a) (postfix b) (piece.Binary sign span ∷ []) ∙ append_assoc (pieces trees) (postfix a) (postfix b ++ piece.Binary sign span ∷ [])))
 
-holds-all : (ps : List Piece) (trees more : List Tree) → AreProper trees → grown trees ps ≡ Some more → Holds trees ps more
-holds-all [] trees more h e = subst (Holds trees []) (some-same trees more e) (h, sym (append-nil (pieces trees)))
-holds-all (p ∷ ps) trees more h e = step (planted p trees) refl e (λ next. holds-all ps next more) where
-  step : (o : Option (List Tree)) → planted p trees ≡ o → option_and_then (λ next. grown next ps) o ≡ Some more → ((next : List Tree) → AreProper next → grown next ps ≡ Some more → Holds next ps more) → Holds trees (p ∷ ps) more
+holds-all : (ps : List Piece) (trees more : List Tree) → AreProper trees → trees_after trees ps ≡ Some more → Holds trees ps more
+holds-all [] trees more h e = subst (Holds trees []) (same_Some trees more e) (h, sym (append-nil (pieces trees)))
+holds-all (p ∷ ps) trees more h e = step (trees_after_piece p trees) refl e (λ next. holds-all ps next more) where
+  step : (o : Option (List Tree)) → trees_after_piece p trees ≡ o → option_and_then (λ next. trees_after next ps) o ≡ Some more → ((next : List Tree) → AreProper next → trees_after next ps ≡ Some more → Holds next ps more) → Holds trees (p ∷ ps) more
   step None w e rest = cc
   step (Some next) w e rest =
       let a = one-more p trees next h w in
@@ -64,8 +62,8 @@ holds-all (p ∷ ps) trees more h e = step (planted p trees) refl e (λ next. ho
 
 -- the tree of pieces has these pieces
 pub tree-holds : (ps : List Piece) (a : Tree) → tree_of ps ≡ Some a → IsProper a × (postfix a ≡ ps)
-tree-holds ps a e = step (grown [] ps) refl e where
-  step : (o : Option (List Tree)) → grown [] ps ≡ o → option_and_then alone o ≡ Some a → IsProper a × (postfix a ≡ ps)
+tree-holds ps a e = step (trees_after [] ps) refl e where
+  step : (o : Option (List Tree)) → trees_after [] ps ≡ o → option_and_then only_tree o ≡ Some a → IsProper a × (postfix a ≡ ps)
   step None w e = cc
   step (Some []) w e = cc
   step (Some (b ∷ c ∷ trees)) w e = cc
@@ -75,21 +73,21 @@ tree-holds ps a e = step (grown [] ps) refl e where
       subst (λ x. IsProper x × (postfix x ≡ ps)) same (h.0.0, h.1)
 
 -- and the pieces of a tree have that tree
-pub grown-postfix : (a : Tree) (trees : List Tree) (ps : List Piece) → IsProper a → grown trees (postfix a ++ ps) ≡ grown (a ∷ trees) ps
-grown-postfix (Leaf (piece.Int value span)) trees ps h = refl
-grown-postfix (Leaf (piece.Text value span)) trees ps h = refl
-grown-postfix (Leaf (piece.Bool value span)) trees ps h = refl
-grown-postfix (Leaf (piece.Name name)) trees ps h = refl
-grown-postfix (Leaf (piece.Slot node attribute)) trees ps h = refl
-grown-postfix (Leaf (piece.Not span)) trees ps h = absurd h
-grown-postfix (Leaf (piece.Minus span)) trees ps h = absurd h
-grown-postfix (Leaf (piece.Binary sign span)) trees ps h = absurd h
-grown-postfix (Not span a) trees ps h = ap (grown trees) (append_assoc (postfix a) (piece.Not span ∷ []) ps) ∙ grown-postfix a trees (piece.Not span ∷ ps) h
-grown-postfix (Minus span a) trees ps h = ap (grown trees) (append_assoc (postfix a) (piece.Minus span ∷ []) ps) ∙ grown-postfix a trees (piece.Minus span ∷ ps) h
-grown-postfix (Binary sign span a b) trees ps h =
-    ap (grown trees) (append_assoc (postfix a) (postfix b ++ piece.Binary sign span ∷ []) ps ∙ ap (λ x. postfix a ++ x) (append_assoc (postfix b) (piece.Binary sign span ∷ []) ps))
-    ∙ grown-postfix a trees (postfix b ++ (piece.Binary sign span ∷ ps)) h.0
-    ∙ grown-postfix b (a ∷ trees) (piece.Binary sign span ∷ ps) h.1
+pub trees_after-postfix : (a : Tree) (trees : List Tree) (ps : List Piece) → IsProper a → trees_after trees (postfix a ++ ps) ≡ trees_after (a ∷ trees) ps
+trees_after-postfix (Leaf (piece.Int value span)) trees ps h = refl
+trees_after-postfix (Leaf (piece.Text value span)) trees ps h = refl
+trees_after-postfix (Leaf (piece.Bool value span)) trees ps h = refl
+trees_after-postfix (Leaf (piece.Name name)) trees ps h = refl
+trees_after-postfix (Leaf (piece.Slot node attribute)) trees ps h = refl
+trees_after-postfix (Leaf (piece.Not span)) trees ps h = absurd h
+trees_after-postfix (Leaf (piece.Minus span)) trees ps h = absurd h
+trees_after-postfix (Leaf (piece.Binary sign span)) trees ps h = absurd h
+trees_after-postfix (Not span a) trees ps h = ap (trees_after trees) (append_assoc (postfix a) (piece.Not span ∷ []) ps) ∙ trees_after-postfix a trees (piece.Not span ∷ ps) h
+trees_after-postfix (Minus span a) trees ps h = ap (trees_after trees) (append_assoc (postfix a) (piece.Minus span ∷ []) ps) ∙ trees_after-postfix a trees (piece.Minus span ∷ ps) h
+trees_after-postfix (Binary sign span a b) trees ps h =
+    ap (trees_after trees) (append_assoc (postfix a) (postfix b ++ piece.Binary sign span ∷ []) ps ∙ ap (λ x. postfix a ++ x) (append_assoc (postfix b) (piece.Binary sign span ∷ []) ps))
+    ∙ trees_after-postfix a trees (postfix b ++ (piece.Binary sign span ∷ ps)) h.0
+    ∙ trees_after-postfix b (a ∷ trees) (piece.Binary sign span ∷ ps) h.1
 
 pub tree-of-postfix : (a : Tree) → IsProper a → tree_of (postfix a) ≡ Some a
-tree-of-postfix a h = ap (option_and_then alone) (ap (grown []) (sym (append-nil (postfix a))) ∙ grown-postfix a [] [] h)
+tree-of-postfix a h = ap (option_and_then only_tree) (ap (trees_after []) (sym (append-nil (postfix a))) ∙ trees_after-postfix a [] [] h)

@@ -18,8 +18,10 @@ pub mod SaysExpr
 pub mod SaysLists
 pub mod SaysParts
 pub mod SaysUnits
+pub mod Expressions
 pub mod WellParsed
 pub mod Whole
 pub mod Judged
+pub mod ReadOnce
 pub mod Placeless
 pub mod ReadBack

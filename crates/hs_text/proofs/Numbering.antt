@@ -1,4 +1,5 @@
-use Rattle.std.proofs.Common.{ℕ, zero, suc, ◌≡◌, Bool, true, false, ◌&&◌, List, [], ◌∷◌, nat_eq, get_or, refl, ap, sym, subst, ◌∙◌, arith}
+use Rattle.std.proofs.Common.{ℕ, zero, suc, ◌≡◌, Bool, true, List, [], ◌∷◌, nat_eq, get_or, refl, ap, sym, subst, ◌∙◌, arith}
+use Rattle.std.proofs.lemmas.Bool.{and_parts}
 use Rattle.std.specs.List.{list_all}
 use Rattle.hs_tokens.specs.declared.token.Kind.{Kind}
 use Rattle.hs_tokens.specs.declared.token.Kind.TheVariants as kind
@@ -69,23 +70,15 @@ at-code kind.Plus = refl
 at-code kind.Minus = refl
 at-code kind.Times = refl
 
-pub and-left : (a b : Bool) → (a && b) ≡ true → a ≡ true
-and-left true b e = refl
-and-left false b e = cc
-
-pub and-right : (a b : Bool) → (a && b) ≡ true → b ≡ true
-and-right true b e = e
-and-right false b e = cc
-
 all-at : {A : Type 0} (p : A → Bool) (xs : List A) (i : ℕ) (d : A) → list_all p xs ≡ true → p d ≡ true → p (get_or xs i d) ≡ true
 all-at p [] i d h e = e
-all-at p (x ∷ xs) zero d h e = and-left (p x) (list_all p xs) h
-all-at p (x ∷ xs) (suc i) d h e = all-at p xs i d (and-right (p x) (list_all p xs) h) e
+all-at p (x ∷ xs) zero d h e = (and_parts (p x) (list_all p xs) h).0
+all-at p (x ∷ xs) (suc i) d h e = all-at p xs i d ((and_parts (p x) (list_all p xs) h).1) e
 
 -- what holds of each kind in the list holds of each kind
 pub every : (p : Kind → Bool) → list_all p kinds ≡ true → (k : Kind) → p k ≡ true
 unfolding kinds
-every p h k = subst (λ x. p x ≡ true) (at-code k) (all-at p kinds (code k) kind.Name h (and-left (p kind.Name) _ h))
+every p h k = subst (λ x. p x ≡ true) (at-code k) (all-at p kinds (code k) kind.Name h ((and_parts (p kind.Name) _ h).0))
 
 productions : List Production
 productions = production.TextMore ∷ production.TextEnd ∷ production.RuleDefinition ∷ production.UnitDefinition ∷ production.Params ∷ production.ParamFirst ∷ production.ParamNone ∷ production.ParamNext ∷ production.ParamLast ∷ production.Param ∷ production.ItemMore ∷ production.ItemEnd ∷ production.ItemSimple ∷ production.ItemForbid ∷ production.ItemRequire ∷ production.ItemMulti ∷ production.ElementMore ∷ production.ElementEnd ∷ production.SimpleMore ∷ production.SimpleEnd ∷ production.SimpleElement ∷ production.SimpleSet ∷ production.SimpleWhere ∷ production.ElementNode ∷ production.ElementEdge ∷ production.Expr ∷ production.OrMore ∷ production.OrEnd ∷ production.Conj ∷ production.AndMore ∷ production.AndEnd ∷ production.NegNot ∷ production.NegCmp ∷ production.Cmp ∷ production.CmpMore ∷ production.CmpEnd ∷ production.Sum ∷ production.SumMore ∷ production.SumEnd ∷ production.Prod ∷ production.ProdMore ∷ production.ProdEnd ∷ production.FactLiteral ∷ production.FactName ∷ production.FactParens ∷ production.FactMinus ∷ production.SlotDot ∷ production.SlotNone ∷ production.BodyListed ∷ production.BodyConditional ∷ production.BodyLoop ∷ production.BodyIterated ∷ production.ElseSome ∷ production.ElseNone ∷ production.CallMore ∷ production.CallEnd ∷ production.Call ∷ production.BindFirst ∷ production.BindNone ∷ production.BindNext ∷ production.BindLast ∷ production.Bind ∷ production.BoundValue ∷ production.BoundVariable ∷ production.ValueAtom ∷ production.ValueMinus ∷ []

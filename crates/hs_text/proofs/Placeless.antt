@@ -1,4 +1,4 @@
-use Rattle.std.proofs.Common.{ℕ, ◌≡◌, List, [], ◌∷◌, ◌++◌, map, Option, Some, None, codes, refl, ap, ◌∙◌}
+use Rattle.std.proofs.Common.{ℕ, ◌≡◌, List, [], ◌∷◌, ◌++◌, map, Option, Some, None, codes, refl, ap, sym, ◌∙◌}
 use Rattle.std.specs.List.{flat_map}
 use Rattle.std.specs.Option.{option_and_then}
 use Rattle.hs_expr.specs.declared.Piece.{Piece}
@@ -21,8 +21,10 @@ use Rattle.hs_text.specs.declared.syntax.Body.{Body}
 use Rattle.hs_text.specs.declared.syntax.Body.TheVariants as body
 use Rattle.hs_text.specs.declared.syntax.Definition.{Definition}
 use Rattle.hs_text.specs.declared.syntax.Definition.TheVariants as definition
-use Rattle.hs_text.specs.Trees.{Tree, Leaf, Not, Minus, Binary, planted, grown, alone, tree_of}
-use Rattle.hs_text.specs.Canonical.{piece_text, operand, tree_text, grown_text, expr_text, commas, param_text, params_text, mark_text, element_text, element_line, simple_text, simple_line, line, block, one_level, two_levels, item_text, atom_text, bind_text, call_text, call_line, body_kind, else_line, body_lines, definition_text, canonical_text}
+use Rattle.hs_expr.specs.Trees.{Tree, Leaf, Not, Minus, Binary, trees_after_piece, trees_after, only_tree, tree_of}
+use Rattle.hs_expr.specs.NameExprs.{expr_tree}
+use Rattle.hs_expr.proofs.OneTree.{tree-found}
+use Rattle.hs_text.specs.Canonical.{piece_text, operand, tree_text, expr_text, commas, param_text, params_text, mark_text, element_text, element_line, simple_text, simple_line, line, block, one_level, two_levels, item_text, atom_text, bind_text, call_text, call_line, body_kind, else_line, body_lines, definition_text, canonical_text}
 use Rattle.hs_text.specs.Unplaced.{nowhere, unplaced_piece, unplaced_expr, unplaced_param, unplaced_element, unplaced_simple, unplaced_item, unplaced_atom, unplaced_bind, unplaced_call, unplaced_else, unplaced_body, unplaced_definition, unplaced}
 
 -- PLACES ARE NOT WRITTEN
@@ -41,32 +43,32 @@ abbrev bare_one : Option Tree → Option Tree
 bare_one None = None
 bare_one (Some a) = Some (bare_tree a)
 
-planted-bare : (p : Piece) (trees : List Tree) → planted (unplaced_piece p) (map bare_tree trees) ≡ bare_trees (planted p trees)
-planted-bare (piece.Int value span) trees = refl
-planted-bare (piece.Text value span) trees = refl
-planted-bare (piece.Bool value span) trees = refl
-planted-bare (piece.Name name) trees = refl
-planted-bare (piece.Slot node attribute) trees = refl
-planted-bare (piece.Not span) [] = refl
-planted-bare (piece.Not span) (a ∷ trees) = refl
-planted-bare (piece.Minus span) [] = refl
-planted-bare (piece.Minus span) (a ∷ trees) = refl
-planted-bare (piece.Binary sign span) [] = refl
-planted-bare (piece.Binary sign span) (a ∷ []) = refl
-planted-bare (piece.Binary sign span) (b ∷ a ∷ trees) = refl
+trees_after_piece-bare : (p : Piece) (trees : List Tree) → trees_after_piece (unplaced_piece p) (map bare_tree trees) ≡ bare_trees (trees_after_piece p trees)
+trees_after_piece-bare (piece.Int value span) trees = refl
+trees_after_piece-bare (piece.Text value span) trees = refl
+trees_after_piece-bare (piece.Bool value span) trees = refl
+trees_after_piece-bare (piece.Name name) trees = refl
+trees_after_piece-bare (piece.Slot node attribute) trees = refl
+trees_after_piece-bare (piece.Not span) [] = refl
+trees_after_piece-bare (piece.Not span) (a ∷ trees) = refl
+trees_after_piece-bare (piece.Minus span) [] = refl
+trees_after_piece-bare (piece.Minus span) (a ∷ trees) = refl
+trees_after_piece-bare (piece.Binary sign span) [] = refl
+trees_after_piece-bare (piece.Binary sign span) (a ∷ []) = refl
+trees_after_piece-bare (piece.Binary sign span) (b ∷ a ∷ trees) = refl
 
-grown-bare : (ps : List Piece) (trees : List Tree) → grown (map bare_tree trees) (map unplaced_piece ps) ≡ bare_trees (grown trees ps)
-grown-bare [] trees = refl
-grown-bare (p ∷ ps) trees = ap (option_and_then (λ more. grown more (map unplaced_piece ps))) (planted-bare p trees) ∙ step (planted p trees) (λ more. grown-bare ps more) where
-  step : (o : Option (List Tree)) → ((more : List Tree) → grown (map bare_tree more) (map unplaced_piece ps) ≡ bare_trees (grown more ps)) → option_and_then (λ more. grown more (map unplaced_piece ps)) (bare_trees o) ≡ bare_trees (option_and_then (λ more. grown more ps) o)
+trees_after-bare : (ps : List Piece) (trees : List Tree) → trees_after (map bare_tree trees) (map unplaced_piece ps) ≡ bare_trees (trees_after trees ps)
+trees_after-bare [] trees = refl
+trees_after-bare (p ∷ ps) trees = ap (option_and_then (λ more. trees_after more (map unplaced_piece ps))) (trees_after_piece-bare p trees) ∙ step (trees_after_piece p trees) (λ more. trees_after-bare ps more) where
+  step : (o : Option (List Tree)) → ((more : List Tree) → trees_after (map bare_tree more) (map unplaced_piece ps) ≡ bare_trees (trees_after more ps)) → option_and_then (λ more. trees_after more (map unplaced_piece ps)) (bare_trees o) ≡ bare_trees (option_and_then (λ more. trees_after more ps) o)
   step None f = refl
   step (Some more) f = f more
 
-alone-bare : (o : Option (List Tree)) → option_and_then alone (bare_trees o) ≡ bare_one (option_and_then alone o)
-alone-bare None = refl
-alone-bare (Some []) = refl
-alone-bare (Some (a ∷ [])) = refl
-alone-bare (Some (a ∷ b ∷ trees)) = refl
+only_tree-bare : (o : Option (List Tree)) → option_and_then only_tree (bare_trees o) ≡ bare_one (option_and_then only_tree o)
+only_tree-bare None = refl
+only_tree-bare (Some []) = refl
+only_tree-bare (Some (a ∷ [])) = refl
+only_tree-bare (Some (a ∷ b ∷ trees)) = refl
 
 operand-bare : (a : Tree) (text : List ℕ) → operand (bare_tree a) text ≡ operand a text
 operand-bare (Leaf p) text = refl
@@ -92,11 +94,16 @@ tree-bare (Binary sign span a b) =
     ap (λ z. (z ++ piece_text (piece.Binary sign span)) ++ operand (bare_tree b) (tree_text (bare_tree b))) (operand-bare a (tree_text (bare_tree a)) ∙ ap (operand a) (tree-bare a))
     ∙ ap (λ z. (operand a (tree_text a) ++ piece_text (piece.Binary sign span)) ++ z) (operand-bare b (tree_text (bare_tree b)) ∙ ap (operand b) (tree-bare b))
 
+pieces-bare : (ps : List Piece) → tree_of (map unplaced_piece ps) ≡ bare_one (tree_of ps)
+pieces-bare ps = ap (option_and_then only_tree) (trees_after-bare ps []) ∙ only_tree-bare (trees_after [] ps)
+
+some-tree : (a b : Tree) → Some a ≡ Some b → a ≡ b
+some-tree a b e = cc
+
 expr-bare : (e : NameExpr) → expr_text (unplaced_expr e) ≡ expr_text e
-expr-bare e = ap grown_text (ap (option_and_then alone) (grown-bare e.pieces []) ∙ alone-bare (grown [] e.pieces)) ∙ step (tree_of e.pieces) where
-  step : (o : Option Tree) → grown_text (bare_one o) ≡ grown_text o
-  step None = refl
-  step (Some a) = tree-bare a
+expr-bare e =
+    let same : Some (expr_tree (unplaced_expr e)) ≡ Some (bare_tree (expr_tree e)) = sym (tree-found (unplaced_expr e)) ∙ pieces-bare e.pieces ∙ ap bare_one (tree-found e) in
+    ap tree_text (some-tree (expr_tree (unplaced_expr e)) (bare_tree (expr_tree e)) same) ∙ tree-bare (expr_tree e)
 
 flat-bare : {X : Type 0} (f : X → List ℕ) (g : X → X) → ((x : X) → f (g x) ≡ f x) → (xs : List X) → flat_map f (map g xs) ≡ flat_map f xs
 flat-bare f g h [] = refl

@@ -15,8 +15,8 @@ use Rattle.hs_text.specs.declared.grammar.Term.{Term}
 use Rattle.hs_text.specs.declared.grammar.Term.TheVariants as term
 use Rattle.hs_text.specs.declared.builder.Builder.{Builder}
 use Rattle.hs_text.specs.Terms.{matches}
-use Rattle.hs_text.specs.Building.{held_then, built}
-use Rattle.hs_text.specs.Machine.{Derives, done, skip, keep, act, by, part_of, right}
+use Rattle.hs_text.specs.Building.{with_token, builder_after}
+use Rattle.hs_text.specs.Machine.{Derives, done, skip, keep, act, by, part_of, right_side}
 
 -- EVERY STACK HAS A TEXT
 
@@ -116,13 +116,13 @@ module _ (source : List ℕ) where
 
   text-keep : (w : Term) (ss : List Symbol) → HasText ss → HasText (Keep w ∷ ss)
   unfolding HasText sample
-  text-keep w ss h b = let t = sample (term-kind w) in let d = h (held_then t b) in (t ∷ d.0, d.1, keep (term-sample w) d.2)
+  text-keep w ss h b = let t = sample (term-kind w) in let d = h (with_token t b) in (t ∷ d.0, d.1, keep (term-sample w) d.2)
 
   text-act : (a : Action) (ss : List Symbol) → HasText ss → HasText (Act a ∷ ss)
   unfolding HasText
-  text-act a ss h b = let d = h (built source a b) in (d.0, d.1, act d.2)
+  text-act a ss h b = let d = h (builder_after source a b) in (d.0, d.1, act d.2)
 
-  text-by : (p : Production) (ss : List Symbol) → HasText (right p ++ ss) → HasText (Sub (part_of p) ∷ ss)
+  text-by : (p : Production) (ss : List Symbol) → HasText (right_side p ++ ss) → HasText (Sub (part_of p) ∷ ss)
   unfolding HasText
   text-by p ss h b = let d = h b in (d.0, d.1, by p refl d.2)
 

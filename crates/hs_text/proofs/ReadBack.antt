@@ -6,8 +6,7 @@ use Rattle.std.proofs.lemmas.Str.{chars-encodes}
 use Rattle.hs_expr.specs.declared.Name.{Name}
 use Rattle.hs_tokens.specs.declared.token.Kind.TheVariants as kind
 use Rattle.hs_tokens.specs.declared.token.Token.{Token}
-use Rattle.hs_tokens.specs.Tokens.{first_place}
-use Rattle.hs_tokens.specs.Lexing.{Whole}
+use Rattle.hs_tokens.specs.Tokens.{text_start}
 use Rattle.hs_text.specs.declared.grammar.Term.TheVariants as term
 use Rattle.hs_text.specs.declared.syntax.Param.{Param}
 use Rattle.hs_text.specs.declared.syntax.Item.{Item}
@@ -22,14 +21,14 @@ use Rattle.hs_text.specs.Lists.{Many, none}
 use Rattle.hs_text.specs.Grammar.{IsParams, IsItem, IsBody, IsDefinition, rule, unit, IsText}
 use Rattle.hs_text.specs.declared.syntax.Syntax.{Syntax}
 use Rattle.hs_text.specs.Parsing.{AreTokens, IsSyntaxOf}
-use Rattle.hs_tokens.proofs.Lexed.{lexed-once}
-use Rattle.hs_text.proofs.Judged.{one}
 use Rattle.hs_text.proofs.Placeless.{text-bare}
+use Rattle.hs_text.proofs.Spelt.{PositionsMove}
+use Rattle.hs_text.proofs.ReadOnce.{LexedOnce, same-made}
 use Rattle.hs_text.proofs.WellParsed.{well-parsed}
 use Rattle.hs_text.specs.WellFormed.{IsName, IsItemFine, IsDefinitionFine}
 use Rattle.hs_text.specs.Canonical.{params_text, item_text, body_kind, body_lines, definition_text, canonical_text}
 use Rattle.hs_text.specs.Unplaced.{unplaced_name, unplaced_param, unplaced_item, unplaced_body, unplaced_definition, unplaced}
-use Rattle.hs_text.proofs.Marks.{Mark, Blank, spelled, written, words, IsSpaced, tokens_from, marks-lex, marks-written, marks-scalars, marks-spell, spaced-mark, word-mark, blank-mark, IsSpelled, Spells, no_tokens, and_token}
+use Rattle.hs_text.proofs.Marks.{Mark, Blank, LexemesBegin, spelled, written, words, IsSpaced, tokens_from, marks-lex, marks-written, marks-scalars, marks-spell, spaced-mark, word-mark, blank-mark, IsSpelled, Spells, no_tokens, and_token}
 use Rattle.hs_text.proofs.Says.{Read, term-is, name-is, same-name}
 use Rattle.hs_text.proofs.SaysLists.{Top, SaysLine, lines_marks, Braced, brace, braced_marks, says-lines, says-braced, line-then}
 use Rattle.hs_text.proofs.SaysParts.{lit, params_marks, says-params, item_marks, says-item}
@@ -157,37 +156,38 @@ record IsReadBack (ds : List Definition) : Type 0 where
   is : IsText (chars (canonical_text ds)) tokens made
   same : unplaced made ≡ unplaced ds
 
-read-back : (ds : List Definition) → AllByRecursion IsDefinitionFine ds → IsReadBack ds
-read-back ds h =
-    let ms = text_marks ds [] in
-    let source = spelled ms in
-    let w = says-text source ds h in
-    let spaced : IsSpaced ms = w.spaced [] tt in
-    let bytes : encode_utf8_all source ≡ canonical_text ds = marks-written ms spaced ∙ w.text [] ∙ append-nil (canonical_text ds) in
-    let same : chars (canonical_text ds) ≡ source = ap chars (sym bytes) ∙ chars-encodes source (marks-scalars ms spaced) in
-    let ts = tokens_from first_place ms in
-    let lexes : AreTokens source ts = marks-lex first_place ms spaced in
-    let r = all-read source ds ts (w.read [] ts (marks-spell source [] first_place ms refl refl)) in
-    record {
-      tokens = ts;
-      made = r.0;
-      scalars = ap all_scalars same ∙ marks-scalars ms spaced;
-      lexed = subst (λ z. AreTokens z ts) (sym same) lexes;
-      is = subst (λ z. IsText z ts r.0) (sym same) r.1;
-      same = r.2;
-    }
+module _ (begin : LexemesBegin) (moves : PositionsMove) where
+  read-back : (ds : List Definition) → AllByRecursion IsDefinitionFine ds → IsReadBack ds
+  read-back ds h =
+      let ms = text_marks ds [] in
+      let source = spelled ms in
+      let w = says-text source ds h in
+      let spaced : IsSpaced ms = w.spaced [] tt in
+      let bytes : encode_utf8_all source ≡ canonical_text ds = marks-written ms spaced ∙ w.text [] ∙ append-nil (canonical_text ds) in
+      let same : chars (canonical_text ds) ≡ source = ap chars (sym bytes) ∙ chars-encodes source (marks-scalars ms spaced) in
+      let ts = tokens_from text_start ms in
+      let lexes : AreTokens source ts = marks-lex begin text_start ms spaced in
+      let r = all-read source ds ts (w.read [] ts (marks-spell moves source [] text_start ms refl refl)) in
+      record {
+        tokens = ts;
+        made = r.0;
+        scalars = ap all_scalars same ∙ marks-scalars ms spaced;
+        lexed = subst (λ z. AreTokens z ts) (sym same) lexes;
+        is = subst (λ z. IsText z ts r.0) (sym same) r.1;
+        same = r.2;
+      }
 
-pub printed-reads : (s : Syntax) → (t : Syntax) × IsSyntaxOf (chars (canonical_text s.definitions)) t
-printed-reads s =
-    let r = read-back s.definitions s.well_formed.0 in
-    (record { definitions = r.made; well_formed = well-parsed (chars (canonical_text s.definitions)) r.scalars r.tokens r.made r.lexed r.is }, (r.tokens, r.lexed, r.is))
+  pub printed-reads : (s : Syntax) → (t : Syntax) × IsSyntaxOf (chars (canonical_text s.definitions)) t
+  printed-reads s =
+      let r = read-back s.definitions s.well_formed.0 in
+      (record { definitions = r.made; well_formed = well-parsed (chars (canonical_text s.definitions)) r.scalars moves r.tokens r.made r.lexed r.is }, (r.tokens, r.lexed, r.is))
 
-pub printed-same : (s t : Syntax) → IsSyntaxOf (chars (canonical_text s.definitions)) t → unplaced t.definitions ≡ unplaced s.definitions
-printed-same s t h =
-    let r = read-back s.definitions s.well_formed.0 in
-    let tokens : h.0 ≡ r.tokens = (lexed-once h.1 r.tokens Whole r.lexed).0 in
-    let made : t.definitions ≡ r.made = one (chars (canonical_text s.definitions)) r.tokens t.definitions r.made (subst (λ z. IsText (chars (canonical_text s.definitions)) z t.definitions) tokens h.2) r.is in
-    ap unplaced made ∙ r.same
+  module _ (lexed_once : LexedOnce) where
+    pub printed-same : (s t : Syntax) → IsSyntaxOf (chars (canonical_text s.definitions)) t → unplaced t.definitions ≡ unplaced s.definitions
+    printed-same s t h =
+        let r = read-back s.definitions s.well_formed.0 in
+        let made : t.definitions ≡ r.made = same-made lexed_once (chars (canonical_text s.definitions)) h.0 r.tokens t.definitions r.made h.1 h.2 r.lexed r.is in
+        ap unplaced made ∙ r.same
 
-pub printed-again : (s t : Syntax) → IsSyntaxOf (chars (canonical_text s.definitions)) t → canonical_text t.definitions ≡ canonical_text s.definitions
-printed-again s t h = sym (text-bare t.definitions) ∙ ap canonical_text (printed-same s t h) ∙ text-bare s.definitions
+    pub printed-again : (s t : Syntax) → IsSyntaxOf (chars (canonical_text s.definitions)) t → canonical_text t.definitions ≡ canonical_text s.definitions
+    printed-again s t h = sym (text-bare t.definitions) ∙ ap canonical_text (printed-same s t h) ∙ text-bare s.definitions

@@ -1,8 +1,7 @@
-use Rattle.std.proofs.Common.{ℕ, ◌<◌, ◌^◌, ◌≡◌, ◌&&◌, cond, List, [], ◌∷◌, ◌++◌, drop, Bool, true, false, Option, Some, None, is_some, unwrap_or, nat_lt, pos, refl, ap, sym, subst, ◌∙◌, arith, encode_utf8_all}
+use Rattle.std.proofs.Common.{ℕ, ◌^◌, ◌≡◌, ◌&&◌, List, [], ◌∷◌, ◌++◌, drop, Bool, true, false, Option, Some, None, is_some, unwrap_or, nat_lt, pos, refl, ap, sym, subst, ◌∙◌, encode_utf8_all}
 use Rattle.std.specs.List.{list_all, flat_map}
 use Rattle.std.specs.Str.{chars}
 use Rattle.std.specs.Fmt.{decimal}
-use Rattle.std.proofs.lemmas.Bool.Decides.{nat_tests}
 use Rattle.std.proofs.lemmas.Str.{encodes-IsAscii, encodes-chars, IsUtf8-from_is_utf8}
 use Rattle.hs_expr.specs.declared.Name.{Name}
 use Rattle.hs_expr.specs.declared.Piece.TheVariants as piece
@@ -10,18 +9,19 @@ use Rattle.hs_tokens.specs.declared.token.Kind.{Kind}
 use Rattle.hs_tokens.specs.declared.token.Kind.TheVariants as kind
 use Rattle.hs_tokens.specs.declared.token.Token.{Token}
 use Rattle.hs_tokens.specs.Kinds.{same}
-use Rattle.hs_tokens.specs.Tokens.{is_letter, is_digit, is_word_part, is_word, is_integer, is_text, closes, kind_in, kind_of, reserved, signs}
-use Rattle.hs_tokens.proofs.Longest.{letter-only}
+use Rattle.hs_expr.specs.Characters.{is_letter, is_digit, is_word_part}
+use Rattle.hs_tokens.specs.Tokens.{is_word, is_integer, is_text, closes, lookup, token_kind, reserved_words, signs}
+use Rattle.hs_expr.proofs.Characters.{letter-only}
 use Rattle.hs_text.specs.declared.grammar.Term.{Term}
 use Rattle.hs_text.specs.declared.grammar.Term.TheVariants as term
 use Rattle.hs_text.specs.Terms.{matches, Is}
-use Rattle.hs_text.specs.Words.{content, name_of, text_of, literal_by, is_true}
+use Rattle.hs_text.specs.Words.{content, name_of, text_in, literal_by, is_true}
 use Rattle.hs_text.specs.WellFormed.{IsWord, IsName, IsAllowed}
 use Rattle.hs_text.specs.Canonical.{escape, truth_text}
 use Rattle.hs_text.specs.Unplaced.{nowhere, unplaced_name}
-use Rattle.hs_text.proofs.Spellings.{kind-tested, word-ascii}
+use Rattle.hs_text.proofs.Spellings.{kind-tested, word-ascii, Kinded, both-kept}
 use Rattle.hs_text.proofs.Marks.{Mark, spelled, written, words, IsSpaced, stops, IsSpelled, Spells}
-use Rattle.hs_text.proofs.Written.{number-is, value-is, quoted_chars, quoted-closes, quoted-means}
+use Rattle.hs_text.proofs.Written.{number-is, value-is, quoted_chars, quoted-closes, quoted-means, number-below}
 
 -- WHAT IS WRITTEN, AND HOW IT READS
 
@@ -43,48 +43,42 @@ pub record Says {X : Type 0} (source : List ℕ) (P : List Token → X → Type 
 
 -- KINDS OF TOKENS
 
-pub term-is : (source : List ℕ) (w : Term) (cs : List ℕ) (t : Token) → IsSpelled source cs t → matches w (kind_of cs) ≡ true → Is w t
+pub term-is : (source : List ℕ) (w : Term) (cs : List ℕ) (t : Token) → IsSpelled source cs t → matches w (token_kind cs) ≡ true → Is w t
 term-is source w cs t s h = subst (λ k. matches w k ≡ true) (sym s.kind) h
 
 word-no-integer : (cs : List ℕ) → is_word cs ≡ true → (is_integer cs ≡ false) × (is_text cs ≡ false)
 word-no-integer [] h = cc
-word-no-integer (c ∷ cs) h = let l = letter-only c (head (is_letter c) (list_all is_word_part cs) _ h) in (ap (λ b. b && list_all is_digit cs) l.0, ap (λ b. b && closes false cs) l.1) where
-  head : (a b d : Bool) → ((a && b) && d) ≡ true → a ≡ true
-  head true b d h = refl
-  head false b d h = cc
+word-no-integer (c ∷ cs) h = let l = letter-only c (both-kept (is_letter c) (list_all is_word_part cs) _ h).0 in (ap (λ b. b && list_all is_digit cs) l.0, ap (λ b. b && closes false cs) l.1)
 
-abbrev Kinded : Bool → Bool → Bool → Option Kind → Option Kind → Kind
-Kinded i t w r s = cond i kind.Int (cond t kind.Text (cond w (unwrap_or r kind.Name) (unwrap_or s kind.Name)))
-
-pub word-kind : (cs : List ℕ) → is_word cs ≡ true → kind_of cs ≡ unwrap_or (kind_in reserved cs) kind.Name
+pub word-kind : (cs : List ℕ) → is_word cs ≡ true → token_kind cs ≡ unwrap_or (lookup reserved_words cs) kind.Name
 word-kind cs h = let n = word-no-integer cs h in step (is_integer cs) (is_text cs) (is_word cs) n.0 n.1 h where
-  step : (i t w : Bool) → i ≡ false → t ≡ false → w ≡ true → Kinded i t w (kind_in reserved cs) (kind_in signs cs) ≡ unwrap_or (kind_in reserved cs) kind.Name
+  step : (i t w : Bool) → i ≡ false → t ≡ false → w ≡ true → Kinded i t w (lookup reserved_words cs) (lookup signs cs) ≡ unwrap_or (lookup reserved_words cs) kind.Name
   step true t w p q r = cc
   step false true w p q r = cc
   step false false true p q r = refl
   step false false false p q r = cc
 
-pub name-kind : (n : Name) → IsName n → kind_of n.text ≡ kind.Name
-name-kind n h = word-kind n.text h.0 ∙ step (kind_in reserved n.text) h.1 where
+pub name-kind : (n : Name) → IsName n → token_kind n.text ≡ kind.Name
+name-kind n h = word-kind n.text h.0 ∙ step (lookup reserved_words n.text) h.1 where
   step : (o : Option Kind) → is_some o ≡ false → unwrap_or o kind.Name ≡ kind.Name
   step None e = refl
   step (Some k) e = cc
 
-pub word-matches : (cs : List ℕ) → is_word cs ≡ true → matches term.Word (kind_of cs) ≡ true
-word-matches cs h = ap (matches term.Word) (word-kind cs h) ∙ step (kind_in reserved cs) refl where
-  step : (o : Option Kind) → kind_in reserved cs ≡ o → matches term.Word (unwrap_or o kind.Name) ≡ true
+pub word-matches : (cs : List ℕ) → is_word cs ≡ true → matches term.Word (token_kind cs) ≡ true
+word-matches cs h = ap (matches term.Word) (word-kind cs h) ∙ step (lookup reserved_words cs) refl where
+  step : (o : Option Kind) → lookup reserved_words cs ≡ o → matches term.Word (unwrap_or o kind.Name) ≡ true
   step None e = refl
-  step (Some k) e = kind-tested (matches term.Word) reserved cs k refl e
+  step (Some k) e = kind-tested (matches term.Word) reserved_words cs k refl e
 
-pub number-kind : (cs : List ℕ) → is_integer cs ≡ true → kind_of cs ≡ kind.Int
+pub number-kind : (cs : List ℕ) → is_integer cs ≡ true → token_kind cs ≡ kind.Int
 number-kind cs h = step (is_integer cs) h where
-  step : (i : Bool) → i ≡ true → Kinded i (is_text cs) (is_word cs) (kind_in reserved cs) (kind_in signs cs) ≡ kind.Int
+  step : (i : Bool) → i ≡ true → Kinded i (is_text cs) (is_word cs) (lookup reserved_words cs) (lookup signs cs) ≡ kind.Int
   step true e = refl
   step false e = cc
 
-pub text-kind : (cs : List ℕ) → closes false cs ≡ true → kind_of (34 ∷ cs) ≡ kind.Text
+pub text-kind : (cs : List ℕ) → closes false cs ≡ true → token_kind (34 ∷ cs) ≡ kind.Text
 text-kind cs h = step (closes false cs) h where
-  step : (t : Bool) → t ≡ true → Kinded false t (is_word (34 ∷ cs)) (kind_in reserved (34 ∷ cs)) (kind_in signs (34 ∷ cs)) ≡ kind.Text
+  step : (t : Bool) → t ≡ true → Kinded false t (is_word (34 ∷ cs)) (lookup reserved_words (34 ∷ cs)) (lookup signs (34 ∷ cs)) ≡ kind.Text
   step true e = refl
   step false e = cc
 
@@ -102,13 +96,10 @@ module _ (source : List ℕ) where
 
   -- VALUES
 
-  below : (n : ℕ) → nat_lt n (2 ^ 63) ≡ true → n < 2 ^ 64
-  below n h = let small : n < 2 ^ 63 = grind (arith, nat_tests) in omega arith
-
   pub number-token : (n : ℕ) (t : Token) → nat_lt n (2 ^ 63) ≡ true → IsSpelled source (decimal n) t → (t.kind ≡ kind.Int) × (t.number ≡ pos n)
-  number-token n t h s = let is = number-is n (below n h) in (s.kind ∙ number-kind (decimal n) is.0, s.number ∙ ap (λ x. pos x) (value-is (decimal n) n is))
+  number-token n t h s = let is = number-is n (number-below n h) in (s.kind ∙ number-kind (decimal n) is.0, s.number ∙ ap (λ x. pos x) (value-is (decimal n) n is))
 
-  pub text-token : (v : List ℕ) (t : Token) → IsAllowed v → IsSpelled source (quoted_chars v) t → (t.kind ≡ kind.Text) × (text_of source t ≡ v)
+  pub text-token : (v : List ℕ) (t : Token) → IsAllowed v → IsSpelled source (quoted_chars v) t → (t.kind ≡ kind.Text) × (text_in source t ≡ v)
   text-token v t h s = (
     s.kind ∙ text-kind (flat_map escape (chars v) ++ 34 ∷ []) (quoted-closes (chars v) h.1),
     ap (λ x. encode_utf8_all (content false (drop 1 x))) s.slice ∙ ap encode_utf8_all (quoted-means (chars v) h.1) ∙ encodes-chars v (IsUtf8-from_is_utf8 v h.0),

@@ -1,8 +1,8 @@
-use Rattle.std.proofs.Common.{ℕ, ◌<◌, ◌^◌, ◌≡◌, ◌&&◌, List, [], ◌∷◌, ◌++◌, map, Bool, true, false, Option, Some, None, is_some, nat_lt, pos, negsuc, codes, lit<, refl, ap, sym, subst, ◌∙◌, arith, append_assoc}
+use Rattle.std.proofs.Common.{ℕ, ◌^◌, ◌≡◌, List, [], ◌∷◌, ◌++◌, map, Bool, true, false, nat_lt, pos, negsuc, codes, lit<, refl, ap, sym, subst, ◌∙◌, append_assoc}
+use Rattle.std.proofs.lemmas.Bool.{and_parts}
 use Rattle.std.specs.List.{AllByRecursion, list_all}
 use Rattle.std.specs.Fmt.{decimal}
 use Rattle.std.proofs.lemmas.List.{append-nil, map-append}
-use Rattle.std.proofs.lemmas.Bool.Decides.{nat_tests}
 use Rattle.hs_expr.specs.declared.Span.{Span}
 use Rattle.hs_expr.specs.declared.Name.{Name}
 use Rattle.hs_expr.specs.declared.Sign.{Sign}
@@ -12,37 +12,36 @@ use Rattle.hs_expr.specs.declared.Piece.TheVariants as piece
 use Rattle.hs_expr.specs.declared.NameExpr.{NameExpr}
 use Rattle.hs_tokens.specs.declared.token.Kind.TheVariants as kind
 use Rattle.hs_tokens.specs.declared.token.Token.{Token}
-use Rattle.hs_tokens.specs.Tokens.{is_letter, is_digit, is_word_part, is_word, is_integer, kind_of}
+use Rattle.hs_expr.specs.Characters.{is_letter, is_digit, is_word_part}
+use Rattle.hs_tokens.specs.Tokens.{is_word, is_integer, token_kind}
 use Rattle.hs_text.specs.declared.grammar.Term.TheVariants as term
 use Rattle.hs_text.specs.Terms.{matches}
 use Rattle.hs_text.specs.Words.{name_of, sign_of, literal_by, literal_of}
 use Rattle.hs_text.specs.Grammar.{Level, Expr, Conj, Neg, Cmp, Sum, Prod, Fact, Expression, expr, no_or, or, conj, no_and, and, not, neg, cmp, no_comparison, comparison, sum, no_addition, addition, prod, no_product, product, literal, name, slot, parens, minus}
-use Rattle.hs_text.specs.Trees.{Tree, Leaf, Not, Minus, Binary, tree_of, postfix}
+use Rattle.hs_expr.specs.Trees.{Tree, Leaf, Not, Minus, Binary, postfix}
+use Rattle.hs_expr.specs.NameExprs.{expr_tree}
+use Rattle.hs_expr.proofs.OneTree.{tree-found}
 use Rattle.hs_text.specs.WellFormed.{IsWord, IsName, IsAllowed, IsPieceFine, IsExprFine}
-use Rattle.hs_text.specs.Canonical.{truth_text, sign_text, piece_text, operand, tree_text, grown_text, expr_text}
+use Rattle.hs_text.specs.Canonical.{truth_text, sign_text, piece_text, operand, tree_text, expr_text}
 use Rattle.hs_text.specs.Unplaced.{nowhere, unplaced_name, unplaced_piece}
 use Rattle.hs_text.proofs.Grown.{IsLeaf, IsProper, tree-holds}
-use Rattle.hs_text.proofs.Marks.{both-left, Mark, Lexeme, Blank, spelled, written, words, IsSpaced, no_arrow, minus-longest, low-same, sign-mark, spaced-mark, word-mark, blank-mark, IsSpelled, Spells, and_token}
-use Rattle.hs_text.proofs.Written.{number-is, quoted_chars, text-mark, number-mark, leaf_marks, wrapped, tree_marks, IsTreeFine, first-letter, first-digit}
+use Rattle.hs_text.proofs.Marks.{Mark, Lexeme, Blank, spelled, written, words, IsSpaced, no_arrow, minus-longest, low-same, sign-mark, spaced-mark, word-mark, blank-mark, IsSpelled, Spells, and_token}
+use Rattle.hs_text.proofs.Written.{number-is, quoted_chars, text-mark, number-mark, leaf_marks, wrapped, tree_marks, IsTreeFine, first-letter, first-digit, number-below}
+use Rattle.hs_text.proofs.Spellings.{both-kept}
 use Rattle.hs_text.proofs.Says.{Read, Says, term-is, name-is, word-is, same-name, number-token, text-token, truth-token}
 
 -- NO ARROW BEGINS AN OPERAND
 
 word-arrow : (cs rest : List ℕ) → is_word cs ≡ true → no_arrow (cs ++ rest) ≡ true
 word-arrow [] rest h = cc
-word-arrow (c ∷ cs) rest h = first-letter c (head (is_letter c) (list_all is_word_part cs) _ h) where
-  head : (a b d : Bool) → ((a && b) && d) ≡ true → a ≡ true
-  head true b d h = refl
-  head false b d h = cc
+word-arrow (c ∷ cs) rest h = first-letter c (both-kept (is_letter c) (list_all is_word_part cs) _ h).0
 
 pub integer-arrow : (cs rest : List ℕ) → is_integer cs ≡ true → no_arrow (cs ++ rest) ≡ true
 integer-arrow [] rest h = cc
-integer-arrow (c ∷ cs) rest h = first-digit c (both-left (is_digit c) (list_all is_digit cs) h)
+integer-arrow (c ∷ cs) rest h = first-digit c ((and_parts (is_digit c) (list_all is_digit cs) h).0)
 
 leaf-arrow : (p : Piece) (rest : List Mark) → IsLeaf p → IsPieceFine p → no_arrow (spelled (leaf_marks p rest)) ≡ true
-leaf-arrow (piece.Int (pos n) span) rest l h = integer-arrow (decimal n) (spelled rest) (number-is n (below n h)).0 where
-  below : (n : ℕ) → nat_lt n (2 ^ 63) ≡ true → n < 2 ^ 64
-  below n h = let small : n < 2 ^ 63 = grind (arith, nat_tests) in omega arith
+leaf-arrow (piece.Int (pos n) span) rest l h = integer-arrow (decimal n) (spelled rest) (number-is n (number-below n h)).0
 leaf-arrow (piece.Int (negsuc n) span) rest l h = cc
 leaf-arrow (piece.Text value span) rest l h = refl
 leaf-arrow (piece.Bool true span) rest l h = refl
@@ -98,7 +97,7 @@ module _ (source : List ℕ) where
   sign-end l t g ts us ps qs w e = subst (λ (x : Sign). At l (ts ++ (t ∷ us)) (ps ++ (qs ++ piece.Binary x t.span ∷ []))) w e
 
   -- two operands and the sign between them
-  joined : (g : Sign) (t : Token) (ts us : List Token) (ps qs : List Piece) → t.kind ≡ kind_of (sign_text g) → At Fact ts ps → At Fact us qs → At Expr (ts ++ (t ∷ us)) (ps ++ (qs ++ piece.Binary g t.span ∷ []))
+  joined : (g : Sign) (t : Token) (ts us : List Token) (ps qs : List Piece) → t.kind ≡ token_kind (sign_text g) → At Fact ts ps → At Fact us qs → At Expr (ts ++ (t ∷ us)) (ps ++ (qs ++ piece.Binary g t.span ∷ []))
   joined sign.Or t ts us ps qs k e f = chain-end Expr t sign.Or ts us ps qs (ap sign_of k) (expr (to-conj (fact-neg e)) (or t (ap (matches (term.Just kind.Or)) k) (to-conj (fact-neg f)) no_or))
   joined sign.And t ts us ps qs k e f = to-expr (chain-end Conj t sign.And ts us ps qs (ap sign_of k) (conj (fact-neg e) (and t (ap (matches (term.Just kind.And)) k) (fact-neg f) no_and)))
   joined sign.Equal t ts us ps qs k e f = neg-expr (neg (sign-end Cmp t sign.Equal ts us ps qs (ap sign_of k) (cmp (to-sum (to-prod e)) (comparison t (ap (matches term.Comparison) k) (to-sum (to-prod f))))))
@@ -302,7 +301,7 @@ module _ (source : List ℕ) where
   both-say (Minus span a) h =
       let o = (both-say a h).0 in
       let whole : Whole (Minus span a) = record {
-        spaced = λ rest t s. (minus-longest (spelled (wrapped a (tree_marks a) rest)) (operand-arrow a rest h), lit< tt, low-same (codes "-") refl, refl, o.spaced rest t s);
+        spaced = λ rest t s. ((λ begin. minus-longest (spelled (wrapped a (tree_marks a) rest)) (operand-arrow a rest h)), lit< tt, low-same (codes "-") refl, refl, o.spaced rest t s);
         text = λ rest. ap (λ z. 45 ∷ z) (o.text rest);
         read = λ rest ts s. read-minus (postfix a) span (words rest) (words (wrapped a (tree_marks a) rest)) ts (λ us r. o.read rest us r) s;
       } in
@@ -340,18 +339,12 @@ tree-fine (Binary g span a b) h k = (
   tree-fine b h.1 (every-left IsPieceFine (postfix b) (piece.Binary g span ∷ []) (every-right IsPieceFine (postfix a) (postfix b ++ piece.Binary g span ∷ []) k)),
 )
 
-abbrev pub grown_marks : Option Tree → List Mark → List Mark
-grown_marks None rest = rest
-grown_marks (Some a) rest = tree_marks a rest
-
 abbrev pub expr_marks : NameExpr → List Mark → List Mark
-expr_marks e rest = grown_marks (tree_of e.pieces) rest
+expr_marks e rest = tree_marks (expr_tree e) rest
 
 pub says-expr : (source : List ℕ) (e : NameExpr) → IsExprFine e → Says source (Expression source Expr) (map unplaced_piece) e.pieces (expr_marks e) (expr_text e)
-says-expr source e h = step (tree_of e.pieces) refl h.0 where
-  step : (o : Option Tree) → tree_of e.pieces ≡ o → is_some o ≡ true → Says source (Expression source Expr) (map unplaced_piece) e.pieces (grown_marks o) (grown_text o)
-  step None w k = cc
-  step (Some a) w k =
-      let t = tree-holds e.pieces a w in
-      let fine : IsTreeFine a = tree-fine a t.0 (subst (AllByRecursion IsPieceFine) (sym t.1) h.1) in
-      subst (λ z. Says source (Expression source Expr) (map unplaced_piece) z (tree_marks a) (tree_text a)) t.1 (both-say source a fine).1
+says-expr source e h =
+    let a = expr_tree e in
+    let t = tree-holds e.pieces a (tree-found e) in
+    let fine : IsTreeFine a = tree-fine a t.0 (subst (AllByRecursion IsPieceFine) (sym t.1) h) in
+    subst (λ z. Says source (Expression source Expr) (map unplaced_piece) z (tree_marks a) (tree_text a)) t.1 (both-say source a fine).1

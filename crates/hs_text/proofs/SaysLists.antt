@@ -4,7 +4,7 @@ use Rattle.hs_tokens.specs.declared.token.Kind.TheVariants as kind
 use Rattle.hs_tokens.specs.declared.token.Token.{Token}
 use Rattle.hs_text.specs.declared.grammar.Term.TheVariants as term
 use Rattle.hs_text.specs.Terms.{Is}
-use Rattle.hs_text.specs.Lists.{Many, none, more, Behind, behind, Before, before, Separated, no_items, items}
+use Rattle.hs_text.specs.Lists.{Many, none, more, After, after_token, Before, before, Separated, no_items, items}
 use Rattle.hs_text.specs.Canonical.{commas}
 use Rattle.hs_text.proofs.Marks.{Mark, Lexeme, Blank, spelled, written, words, IsSpaced, stops, sign-mark, spaced-mark, blank-mark, IsSpelled, Spells, and_token}
 use Rattle.hs_text.proofs.Says.{Read, Says, term-is}
@@ -144,7 +144,7 @@ module _ (source : List ℕ) where
       }
 
   -- lists with commas
-  comma-read : {X : Type 0} (P : List Token → X → Type 0) (bare : X → X) (x : X) (ws inner : List (List ℕ)) (ts : List Token) → ((us : List Token) → Spells source inner us → Read source P bare x ws us) → Spells source (codes "," ∷ inner) ts → Read source (Behind (term.Just kind.Comma) P) bare x ws ts
+  comma-read : {X : Type 0} (P : List Token → X → Type 0) (bare : X → X) (x : X) (ws inner : List (List ℕ)) (ts : List Token) → ((us : List Token) → Spells source inner us → Read source P bare x ws us) → Spells source (codes "," ∷ inner) ts → Read source (After (term.Just kind.Comma) P) bare x ws ts
   comma-read P bare x ws inner _ f (and_token _ t s {ts} r) =
       let q = f ts r in record {
         front = t ∷ q.front;
@@ -152,7 +152,7 @@ module _ (source : List ℕ) where
         made = q.made;
         whole = ap (λ z. t ∷ z) q.whole;
         left = q.left;
-        is = behind t (term-is source (term.Just kind.Comma) (codes ",") t s refl) q.is;
+        is = after_token t (term-is source (term.Just kind.Comma) (codes ",") t s refl) q.is;
         same = q.same;
       }
 
@@ -161,7 +161,7 @@ module _ (source : List ℕ) where
   more-stop marks (x ∷ xs) rest t = refl
 
   says-more : {X : Type 0} (P : List Token → X → Type 0) (bare : X → X) (fine : X → Type 0) (marks : X → List Mark → List Mark) (bytes : X → List ℕ) → ((x : X) → fine x → Says source P bare x (marks x) (bytes x))
-      → (xs : List X) → AllByRecursion fine xs → Says source (Many (Behind (term.Just kind.Comma) P)) (map bare) xs (more_marks marks xs) (flat_map (λ next. codes ", " ++ next) (map bytes xs))
+      → (xs : List X) → AllByRecursion fine xs → Says source (Many (After (term.Just kind.Comma) P)) (map bare) xs (more_marks marks xs) (flat_map (λ next. codes ", " ++ next) (map bytes xs))
   says-more P bare fine marks bytes f [] h = record {
     spaced = λ rest t s. s;
     text = λ rest. refl;
@@ -174,12 +174,12 @@ module _ (source : List ℕ) where
         text = λ rest. ap (λ z. codes ", " ++ z) (w.text (more_marks marks xs rest) ∙ ap (λ z. bytes x ++ z) (v.text rest) ∙ sym (append_assoc (bytes x) (flat_map (λ next. codes ", " ++ next) (map bytes xs)) (written rest)));
         read = λ rest ts s.
             let q = comma-read P bare x (words (more_marks marks xs rest)) (words (marks x (more_marks marks xs rest))) ts (λ us r. w.read (more_marks marks xs rest) us r) s in
-            subst (λ z. Read source (Many (Behind (term.Just kind.Comma) P)) (map bare) (x ∷ xs) (words rest) z) (sym q.whole)
-            (line-then (Behind (term.Just kind.Comma) P) bare x xs (words rest) (words (more_marks marks xs rest)) q.front q.back q.made q.is q.same q.left (λ us r. v.read rest us r));
+            subst (λ z. Read source (Many (After (term.Just kind.Comma) P)) (map bare) (x ∷ xs) (words rest) z) (sym q.whole)
+            (line-then (After (term.Just kind.Comma) P) bare x xs (words rest) (words (more_marks marks xs rest)) q.front q.back q.made q.is q.same q.left (λ us r. v.read rest us r));
       }
 
   first-then : {X : Type 0} (P : List Token → X → Type 0) (bare : X → X) (x : X) (xs : List X) (ws inner : List (List ℕ)) (front back : List Token) (made : X) → P front made → bare made ≡ bare x → Spells source inner back
-      → ((us : List Token) → Spells source inner us → Read source (Many (Behind (term.Just kind.Comma) P)) (map bare) xs ws us) → Read source (Separated P (term.Just kind.Comma)) (map bare) (x ∷ xs) ws (front ++ back)
+      → ((us : List Token) → Spells source inner us → Read source (Many (After (term.Just kind.Comma) P)) (map bare) xs ws us) → Read source (Separated P (term.Just kind.Comma)) (map bare) (x ∷ xs) ws (front ++ back)
   first-then P bare x xs ws inner front back made p w s f =
       let q = f back s in record {
         front = front ++ q.front;

@@ -20,12 +20,14 @@ use Rattle.hs_text.specs.declared.syntax.Item.TheVariants as item
 use Rattle.hs_text.specs.Terms.{Is}
 use Rattle.hs_text.specs.Words.{name_of, direction_of, mark_of}
 use Rattle.hs_text.specs.Lists.{Many, Before, Separated}
-use Rattle.hs_text.specs.Grammar.{Expr, Expression, IsParam, param, IsParams, params, IsElement, node, edge, IsSimple, marked, set, test, IsItem, simply, forbid, require, multi}
+use Rattle.hs_text.specs.Grammar.{Expr, Expression, IsParam, param, IsParams, params, IsElement, node, edge, IsSimple, mark_element, set, test, IsItem, simple_item, forbid, require, multi}
 use Rattle.hs_text.specs.WellFormed.{IsWord, IsName, IsParamFine, IsElementFine, IsSimpleFine, IsItemFine}
 use Rattle.hs_text.specs.Canonical.{direction_text, param_text, params_text, mark_text, element_text, simple_text, element_line, simple_line, item_text}
-use Rattle.hs_text.specs.Unplaced.{nowhere, unplaced_name, unplaced_piece, unplaced_param, unplaced_element, unplaced_simple, unplaced_item}
+use Rattle.hs_text.specs.Unplaced.{nowhere, unplaced_name, unplaced_piece, unplaced_expr, unplaced_param, unplaced_element, unplaced_simple, unplaced_item, unplaced_expr}
 use Rattle.hs_text.proofs.Marks.{Mark, Lexeme, Blank, spelled, words, IsSpaced, stops, sign-mark, spaced-mark, word-mark, blank-mark, IsSpelled, Spells, and_token}
 use Rattle.hs_text.proofs.Says.{Read, Says, term-is, name-is, word-is, same-name}
+use Rattle.hs_expr.proofs.OneTree.{record_of, same-expr}
+use Rattle.hs_text.proofs.Expressions.{expression-one}
 use Rattle.hs_text.proofs.SaysExpr.{expr_marks, says-expr}
 use Rattle.hs_text.proofs.SaysLists.{One, Two, SaysLine, semicolon, spaces, margin, ended, end-spaced, lines_marks, commas_marks, Braced, brace, braced_marks, says-ended, says-indented, says-lines, says-commas, says-braced}
 
@@ -169,7 +171,7 @@ module _ (source : List ℕ) where
         made = simple.Marked (mark_of t.kind) made;
         whole = ap (λ z. t ∷ z) (sym (append_assoc front (c ∷ []) ts));
         left = r;
-        is = marked t c k.0 p (term-is source (term.Just kind.Semicolon) (codes ";") c s refl);
+        is = mark_element t c k.0 p (term-is source (term.Just kind.Semicolon) (codes ";") c s refl);
         same = ap (λ z. simple.Marked z (unplaced_element made)) k.1 ∙ ap (λ z. simple.Marked m z) w;
       }
 
@@ -178,18 +180,21 @@ module _ (source : List ℕ) where
       let q = f ts r in
       subst (λ z. Read source (IsSimple source) unplaced_simple (simple.Marked m e) ws (t ∷ z)) (sym q.whole) (marked-end m e q.made t ws q.front q.back st q.is q.same q.left)
 
+  same-unplaced : (x e : NameExpr) → map unplaced_piece x.pieces ≡ map unplaced_piece e.pieces → unplaced_expr x ≡ unplaced_expr e
+  same-unplaced x e v = same-expr (map unplaced_piece x.pieces) (map unplaced_piece e.pieces) (unplaced_expr x).one (unplaced_expr e).one v
+
   abbrev ExprRead : NameExpr → List (List ℕ) → List Token → Type 0
   ExprRead e ws us = Read source (Expression source Expr) (map unplaced_piece) e.pieces ws us
 
   test-end : (w : _) (e : NameExpr) (made : List Piece) (t : Token) (ws : List (List ℕ)) (front back : List Token) → IsSpelled source (codes "where") t → Expression source Expr front made → map unplaced_piece made ≡ map unplaced_piece e.pieces → Spells source (codes ";" ∷ ws) back → Read source (IsSimple source) unplaced_simple (simple.Where w e) ws (t ∷ (front ++ back))
-  test-end w e made t ws front _ st p v (and_token _ c s {ts} r) = record {
+  test-end w e made t ws front _ st p v (and_token _ c s {ts} r) = let x = record_of made (expression-one p) in record {
     front = t ∷ (front ++ c ∷ []);
     back = ts;
-    made = simple.Where t.span (record { pieces = made });
+    made = simple.Where t.span x;
     whole = ap (λ z. t ∷ z) (sym (append_assoc front (c ∷ []) ts));
     left = r;
-    is = test t c (term-is source (term.Just kind.Where) (codes "where") t st refl) p (term-is source (term.Just kind.Semicolon) (codes ";") c s refl);
-    same = ap (λ (z : List Piece). simple.Where nowhere (record { pieces = z })) v;
+    is = test t c x (term-is source (term.Just kind.Where) (codes "where") t st refl) p (term-is source (term.Just kind.Semicolon) (codes ";") c s refl);
+    same = ap (λ z. simple.Where nowhere z) (same-unplaced x e v);
   }
 
   test-read : (w : _) (e : NameExpr) (ws inner : List (List ℕ)) (ts : List Token) → ((us : List Token) → Spells source inner us → ExprRead e (codes ";" ∷ ws) us) → Spells source (codes "where" ∷ inner) ts → Read source (IsSimple source) unplaced_simple (simple.Where w e) ws ts
@@ -199,16 +204,16 @@ module _ (source : List ℕ) where
 
   set-end : (n a : Name) (e : NameExpr) (made : List Piece) (k x d y g : Token) (ws : List (List ℕ)) (front back : List Token) → IsName n → IsWord a → IsSpelled source (codes "set") k → IsSpelled source n.text x → IsSpelled source (codes ".") d → IsSpelled source a.text y → IsSpelled source (codes "=") g
       → Expression source Expr front made → map unplaced_piece made ≡ map unplaced_piece e.pieces → Spells source (codes ";" ∷ ws) back → Read source (IsSimple source) unplaced_simple (simple.Set n a e) ws (k ∷ x ∷ d ∷ y ∷ g ∷ (front ++ back))
-  set-end n a e made k x d y g ws front _ h l sk sx sd sy sg p v (and_token _ c s {ts} r) = record {
+  set-end n a e made k x d y g ws front _ h l sk sx sd sy sg p v (and_token _ c s {ts} r) = let z = record_of made (expression-one p) in record {
     front = k ∷ x ∷ d ∷ y ∷ g ∷ (front ++ c ∷ []);
     back = ts;
-    made = simple.Set (name_of source x) (name_of source y) (record { pieces = made });
+    made = simple.Set (name_of source x) (name_of source y) z;
     whole = ap (λ z. k ∷ x ∷ d ∷ y ∷ g ∷ z) (sym (append_assoc front (c ∷ []) ts));
     left = r;
-    is = set k x d y g c (term-is source (term.Just kind.Set) (codes "set") k sk refl) (name-is source n x h sx) (term-is source (term.Just kind.Dot) (codes ".") d sd refl) (word-is source a y l sy) (term-is source (term.Just kind.Assign) (codes "=") g sg refl) p (term-is source (term.Just kind.Semicolon) (codes ";") c s refl);
-    same = ap (λ z. simple.Set z (unplaced_name (name_of source y)) (record { pieces = map unplaced_piece made })) (same-name source n x h.0 sx)
-        ∙ ap (λ z. simple.Set (unplaced_name n) z (record { pieces = map unplaced_piece made })) (same-name source a y l sy)
-        ∙ ap (λ (z : List Piece). simple.Set (unplaced_name n) (unplaced_name a) (record { pieces = z })) v;
+    is = set k x d y g c z (term-is source (term.Just kind.Set) (codes "set") k sk refl) (name-is source n x h sx) (term-is source (term.Just kind.Dot) (codes ".") d sd refl) (word-is source a y l sy) (term-is source (term.Just kind.Assign) (codes "=") g sg refl) p (term-is source (term.Just kind.Semicolon) (codes ";") c s refl);
+    same = ap (λ m. simple.Set m (unplaced_name (name_of source y)) (unplaced_expr z)) (same-name source n x h.0 sx)
+        ∙ ap (λ m. simple.Set (unplaced_name n) m (unplaced_expr z)) (same-name source a y l sy)
+        ∙ ap (λ v. simple.Set (unplaced_name n) (unplaced_name a) v) (same-unplaced z e v);
   }
 
   set-read : (n a : Name) (e : NameExpr) (ws inner : List (List ℕ)) (ts : List Token) → IsName n → IsWord a → ((us : List Token) → Spells source inner us → ExprRead e (codes ";" ∷ ws) us) → Spells source (codes "set" ∷ n.text ∷ codes "." ∷ a.text ∷ codes "=" ∷ inner) ts → Read source (IsSimple source) unplaced_simple (simple.Set n a e) ws ts
@@ -299,7 +304,7 @@ module _ (source : List ℕ) where
       says-indented source One (IsItem source) unplaced_item (item.Simple s) (simple_marks s) (simple_text s ++ codes ";\n") (record {
         spaced = w.spaced;
         text = w.text;
-        read = λ rest ts r. let q = w.read rest ts r in record { front = q.front; back = q.back; made = item.Simple q.made; whole = q.whole; left = q.left; is = simply q.is; same = ap (λ z. item.Simple z) q.same };
+        read = λ rest ts r. let q = w.read rest ts r in record { front = q.front; back = q.back; made = item.Simple q.made; whole = q.whole; left = q.left; is = simple_item q.is; same = ap (λ z. item.Simple z) q.same };
       })
   says-item (item.Forbid es) h =
       let w = says-elements source es h in

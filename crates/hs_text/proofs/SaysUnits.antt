@@ -1,7 +1,6 @@
-use Rattle.std.proofs.Common.{ℕ, ◌<◌, ◌^◌, ◌≡◌, List, [], ◌∷◌, ◌++◌, map, Bool, true, false, Option, Some, None, codes, lit<, nat_lt, pos, negsuc, refl, ap, sym, subst, ◌∙◌, arith, append_assoc}
+use Rattle.std.proofs.Common.{ℕ, ◌^◌, ◌≡◌, List, [], ◌∷◌, ◌++◌, map, Bool, true, false, Option, Some, None, codes, lit<, nat_lt, pos, negsuc, refl, ap, sym, subst, ◌∙◌, append_assoc}
 use Rattle.std.specs.List.{AllByRecursion, flat_map}
 use Rattle.std.specs.Fmt.{decimal, signed_decimal}
-use Rattle.std.proofs.lemmas.Bool.Decides.{nat_tests}
 use Rattle.hs_expr.specs.declared.Span.{Span}
 use Rattle.hs_expr.specs.declared.Name.{Name}
 use Rattle.hs_tokens.specs.declared.token.Kind.TheVariants as kind
@@ -17,15 +16,15 @@ use Rattle.hs_text.specs.declared.syntax.Count.TheVariants as count
 use Rattle.hs_text.specs.declared.syntax.Body.{Body}
 use Rattle.hs_text.specs.declared.syntax.Body.TheVariants as body
 use Rattle.hs_text.specs.Terms.{matches, Is}
-use Rattle.hs_tokens.specs.Tokens.{kind_of}
-use Rattle.hs_text.specs.Words.{name_of, atom_by, atom_of, count_by, count_of, listed_of}
-use Rattle.hs_text.specs.Lists.{Many, Optional, absent, present, Behind, behind, Separated}
-use Rattle.hs_text.specs.Grammar.{IsAtom, value, negative, IsBind, give, take, IsCall, call, CallThen, IsBody, listed, conditional, loop, iterated}
+use Rattle.hs_tokens.specs.Tokens.{token_kind}
+use Rattle.hs_text.specs.Words.{name_of, atom_by, atom_of, count_by, count_of, list_body}
+use Rattle.hs_text.specs.Lists.{Many, Optional, absent, present, After, after_token, Separated}
+use Rattle.hs_text.specs.Grammar.{IsAtom, value, negative, IsBind, give, take, IsCall, call, CallThen, IsBody, call_list, conditional, loop, iterated}
 use Rattle.hs_text.specs.WellFormed.{IsName, IsAllowed, IsAtomFine, IsBindFine, IsCallFine, IsElseFine, IsBodyFine}
 use Rattle.hs_text.specs.Canonical.{quoted_text, truth_text, atom_text, bind_text, call_text, call_line, body_kind, else_line, body_lines}
 use Rattle.hs_text.specs.Unplaced.{nowhere, unplaced_name, unplaced_atom, unplaced_bind, unplaced_call, unplaced_count, unplaced_else, unplaced_body}
 use Rattle.hs_text.proofs.Marks.{Mark, Lexeme, Blank, spelled, written, words, minus-longest, low-same, sign-mark, spaced-mark, word-mark, blank-mark, IsSpelled, Spells, and_token}
-use Rattle.hs_text.proofs.Written.{number-is, quoted_chars, text-mark, number-mark}
+use Rattle.hs_text.proofs.Written.{number-is, quoted_chars, text-mark, number-mark, number-below}
 use Rattle.hs_text.proofs.Says.{Read, Says, term-is, name-is, name-kind, same-name, number-token, text-token}
 use Rattle.hs_text.proofs.SaysExpr.{integer-arrow}
 use Rattle.hs_text.proofs.SaysLists.{Top, One, SaysLine, spaces, margin, ended, lines_marks, commas_marks, Braced, brace, braced_marks, says-ended, says-indented, says-lines, says-commas, says-braced}
@@ -57,9 +56,6 @@ count_marks (count.Param n) rest = lit n.text ∷ rest
 abbrev pub else_marks : Option Call → List Mark → List Mark
 else_marks None rest = rest
 else_marks (Some c) rest = spaces One (lit (codes "else") ∷ Blank 32 ∷ ended (call_marks c) rest)
-
-below : (n : ℕ) → nat_lt n (2 ^ 63) ≡ true → n < 2 ^ 64
-below n h = let small : n < 2 ^ 63 = grind (arith, nat_tests) in omega arith
 
 module _ (source : List ℕ) where
   -- VALUES
@@ -100,7 +96,7 @@ module _ (source : List ℕ) where
 
   says-atom : (a : Atom) → IsAtomFine a → Says source (IsAtom source) unplaced_atom a (atom_marks a) (atom_text a)
   says-atom (atom.Int true (pos n) span) h = record {
-    spaced = λ rest t s. (minus-longest (decimal n ++ spelled rest) (integer-arrow (decimal n) (spelled rest) (number-is n (below n h)).0), lit< tt, low-same (codes "-") refl, refl, number-mark n rest h t s);
+    spaced = λ rest t s. ((λ begin. minus-longest (decimal n ++ spelled rest) (integer-arrow (decimal n) (spelled rest) (number-is n (number-below n h)).0)), lit< tt, low-same (codes "-") refl, refl, number-mark n rest h t s);
     text = λ rest. refl;
     read = λ rest ts s. read-negative n span (words rest) ts h s;
   }
@@ -212,20 +208,20 @@ module _ (source : List ℕ) where
   pub says-calls : (cs : List Call) → AllByRecursion IsCallFine cs → SaysLine source (Braced (Many Then)) (map unplaced_call) cs (braced_marks Top (lines_marks call_lines cs)) (codes "{\n" ++ flat_map (call_line []) cs ++ margin Top ++ codes "}\n")
   says-calls cs h = says-braced source Top (Many Then) (map unplaced_call) cs (lines_marks call_lines cs) (flat_map (call_line []) cs) (says-lines source Then unplaced_call IsCallFine call_lines (call_line []) says-call-line cs h)
 
-  listed-is : (k : Token) {us : List Token} {cs : List Call} → Is term.Order k → Braced (Many Then) us cs → IsBody source (k ∷ us) (listed_of k.kind cs)
-  listed-is k i (brace o c j p l) = listed k o c i j p l
+  listed-is : (k : Token) {us : List Token} {cs : List Call} → Is term.Order k → Braced (Many Then) us cs → IsBody source (k ∷ us) (list_body k.kind cs)
+  listed-is k i (brace o c j p l) = call_list k o c i j p l
 
-  pub listed-read : (word : List ℕ) (b : List Call → Body) (cs : List Call) (ws inner : List (List ℕ)) (ts : List Token) → matches term.Order (kind_of word) ≡ true → ((xs : List Call) → listed_of (kind_of word) xs ≡ b xs) → ((xs : List Call) → map unplaced_call xs ≡ map unplaced_call cs → unplaced_body (b xs) ≡ unplaced_body (b cs))
+  pub listed-read : (word : List ℕ) (b : List Call → Body) (cs : List Call) (ws inner : List (List ℕ)) (ts : List Token) → matches term.Order (token_kind word) ≡ true → ((xs : List Call) → list_body (token_kind word) xs ≡ b xs) → ((xs : List Call) → map unplaced_call xs ≡ map unplaced_call cs → unplaced_body (b xs) ≡ unplaced_body (b cs))
       → ((us : List Token) → Spells source inner us → Read source (Braced (Many Then)) (map unplaced_call) cs ws us) → Spells source (word ∷ inner) ts → Read source (IsBody source) unplaced_body (b cs) ws ts
   listed-read word b cs ws inner _ order is-b same-b f (and_token _ k sk {ts} r) =
       let q = f ts r in record {
         front = k ∷ q.front;
         back = q.back;
-        made = listed_of k.kind q.made;
+        made = list_body k.kind q.made;
         whole = ap (λ z. k ∷ z) q.whole;
         left = q.left;
         is = listed-is k (term-is source term.Order word k sk order) q.is;
-        same = ap unplaced_body (ap (λ z. listed_of z q.made) sk.kind ∙ is-b q.made) ∙ same-b q.made q.same;
+        same = ap unplaced_body (ap (λ z. list_body z q.made) sk.kind ∙ is-b q.made) ∙ same-b q.made q.same;
       }
 
   loop-is : (k : Token) {us : List Token} {c : Call} → Is (term.Just kind.Loop) k → Braced Then us c → IsBody source (k ∷ us) (body.Loop c)
@@ -275,16 +271,16 @@ abbrev bare_branches : Branches → Branches
 bare_branches b = record { test = unplaced_call b.test; chosen = unplaced_call b.chosen; otherwise = unplaced_else b.otherwise }
 
 data IsBranches (source : List ℕ) : List Token → Branches → Type 0 where
-  branches : (i h : Token) {ts us vs : List Token} {a b : Call} {e : Option Call} → Is (term.Just kind.If) i → CallThen source ts a → Is (term.Just kind.Then) h → CallThen source us b → Optional (Behind (term.Just kind.Else) (CallThen source)) vs e
+  branches : (i h : Token) {ts us vs : List Token} {a b : Call} {e : Option Call} → Is (term.Just kind.If) i → CallThen source ts a → Is (term.Just kind.Then) h → CallThen source us b → Optional (After (term.Just kind.Else) (CallThen source)) vs e
       → IsBranches source (i ∷ (ts ++ (h ∷ (us ++ vs)))) (record { test = a; chosen = b; otherwise = e })
 
 module _ (source : List ℕ) where
   abbrev Otherwise : List Token → Option Call → Type 0
-  Otherwise = Optional (Behind (term.Just kind.Else) (CallThen source))
+  Otherwise = Optional (After (term.Just kind.Else) (CallThen source))
 
   else-read : (c : Call) (ws inner : List (List ℕ)) (ts : List Token) → ((us : List Token) → Spells source inner us → Read source (CallThen source) unplaced_call c ws us) → Spells source (codes "else" ∷ inner) ts → Read source Otherwise unplaced_else (Some c) ws ts
   else-read c ws inner _ f (and_token _ k sk {ts} r) =
-      let q = f ts r in record { front = k ∷ q.front; back = q.back; made = Some q.made; whole = ap (λ z. k ∷ z) q.whole; left = q.left; is = present (behind k (term-is source (term.Just kind.Else) (codes "else") k sk refl) q.is); same = ap (λ z. Some z) q.same }
+      let q = f ts r in record { front = k ∷ q.front; back = q.back; made = Some q.made; whole = ap (λ z. k ∷ z) q.whole; left = q.left; is = present (after_token k (term-is source (term.Just kind.Else) (codes "else") k sk refl) q.is); same = ap (λ z. Some z) q.same }
 
   says-else : (e : Option Call) → IsElseFine e → SaysLine source Otherwise unplaced_else e (else_marks e) (else_line e)
   says-else None h = record {

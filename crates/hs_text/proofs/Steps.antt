@@ -1,4 +1,5 @@
 use Rattle.std.proofs.Common.{ℕ, ◌+◌, ◌<◌, ◌≤◌, ◌≡◌, ◌⊎◌, inl, inr, Bool, true, false, ◌||◌, ◌&&◌, List, [], ◌∷◌, ◌++◌, Option, Some, None, is_some, nat_lt, cond, refl, ap, sym, subst, ◌∙◌, arith}
+use Rattle.std.proofs.lemmas.Bool.{or_cases, and_parts}
 use Rattle.std.proofs.lemmas.Bool.Decides.{nat_tests}
 use Rattle.hs_tokens.specs.declared.token.Kind.{Kind}
 use Rattle.hs_tokens.specs.declared.token.Token.{Token}
@@ -11,9 +12,8 @@ use Rattle.hs_text.specs.declared.grammar.Symbol.{Symbol}
 use Rattle.hs_text.specs.declared.grammar.Symbol.TheVariants.{Skip, Keep, Sub, Act}
 use Rattle.hs_text.specs.declared.builder.Builder.{Builder}
 use Rattle.hs_text.specs.Terms.{matches}
-use Rattle.hs_text.specs.Building.{held_then, built}
-use Rattle.hs_text.specs.Machine.{Derives, done, skip, keep, act, by, part_of, right, choice_of, empty_of, or_else, production_of, begins, follows, Fine}
-use Rattle.hs_text.proofs.Numbering.{and-left, and-right}
+use Rattle.hs_text.specs.Building.{with_token, builder_after}
+use Rattle.hs_text.specs.Machine.{Derives, done, skip, keep, act, by, part_of, right_side, choice_of, empty_of, choice_or, production_of, begins, follows, Fine}
 use Rattle.hs_text.proofs.Tables.{implies, empties, begins-chosen, empties-chosen, apart, level, lower, choice-part, choice-lower, level-bounds, empty-part, is_short, empty-short, begins_then, kept, keeps}
 
 -- WHAT A TEXT BEGINS WITH
@@ -22,17 +22,15 @@ Begins : List Symbol → List Token → Type 0
 Begins ss [] = Unit {0}
 Begins ss (t ∷ ts) = begins ss t.kind ≡ true
 
+or-false : (a : Bool) → a ≡ (a || false)
+or-false true = refl
+or-false false = refl
+
 -- symbols begin as their front does, or as the rest where the front may be nothing
 begins-append : (xs ss : List Symbol) (k : Kind) → begins (xs ++ ss) k ≡ (begins xs k || (empties xs && begins ss k))
 begins-append [] ss k = refl
-begins-append (Skip j ∷ xs) ss k = or-false (same j k) where
-  or-false : (a : Bool) → a ≡ (a || false)
-  or-false true = refl
-  or-false false = refl
-begins-append (Keep w ∷ xs) ss k = or-false (matches w k) where
-  or-false : (a : Bool) → a ≡ (a || false)
-  or-false true = refl
-  or-false false = refl
+begins-append (Skip j ∷ xs) ss k = or-false (same j k)
+begins-append (Keep w ∷ xs) ss k = or-false (matches w k)
 begins-append (Act a ∷ xs) ss k = begins-append xs ss k
 begins-append (Sub n ∷ xs) ss k = rw (begins-append xs ss k) (regroup (is_some (choice_of n k)) (is_some (empty_of n)) (begins xs k) (empties xs) (begins ss k)) where
   regroup : (c e b x s : Bool) → (c || (e && (b || (x && s)))) ≡ ((c || (e && b)) || ((e && x) && s))
@@ -41,22 +39,18 @@ begins-append (Sub n ∷ xs) ss k = rw (begins-append xs ss k) (regroup (is_some
   regroup false true true x s = refl
   regroup false true false x s = refl
 
-or-cases : (a b : Bool) → (a || b) ≡ true → (a ≡ true) ⊎ (b ≡ true)
-or-cases true b h = inl refl
-or-cases false b h = inr h
-
 -- a production that begins with a token is the one that is chosen, or it may be nothing and what follows begins so
-choose : (p : Production) (ss : List Symbol) (k : Kind) → begins (right p ++ ss) k ≡ true → (choice_of (part_of p) k ≡ Some p) ⊎ ((empty_of (part_of p) ≡ Some p) × (begins ss k ≡ true))
-choose p ss k h = elim (or-cases (begins (right p) k) (empties (right p) && begins ss k) (sym (begins-append (right p) ss k) ∙ h)) [
+choose : (p : Production) (ss : List Symbol) (k : Kind) → begins (right_side p ++ ss) k ≡ true → (choice_of (part_of p) k ≡ Some p) ⊎ ((empty_of (part_of p) ≡ Some p) × (begins ss k ≡ true))
+choose p ss k h = elim (or_cases (begins (right_side p) k) (empties (right_side p) && begins ss k) (sym (begins-append (right_side p) ss k) ∙ h)) [
   | inl a ↦ inl (begins-chosen p k a)
-  | inr b ↦ inr (empties-chosen p (and-left (empties (right p)) (begins ss k) b), and-right (empties (right p)) (begins ss k) b)
+  | inr b ↦ inr (empties-chosen p ((and_parts (empties (right_side p)) (begins ss k) b).0), (and_parts (empties (right_side p)) (begins ss k) b).1)
 ]
 
 is-some : (o : Option Production) (p : Production) → o ≡ Some p → is_some o ≡ true
 is-some None p e = cc
 is-some (Some q) p e = refl
 
-production-begins : (p : Production) (ss : List Symbol) (k : Kind) → begins (right p ++ ss) k ≡ true → begins (Sub (part_of p) ∷ ss) k ≡ true
+production-begins : (p : Production) (ss : List Symbol) (k : Kind) → begins (right_side p ++ ss) k ≡ true → begins (Sub (part_of p) ∷ ss) k ≡ true
 production-begins p ss k h = elim (choose p ss k h) [
   | inl a ↦ rw (is-some (choice_of (part_of p) k) p a) refl
   | inr b ↦ rw (is-some (empty_of (part_of p)) p b.0, b.1) (or-true (is_some (choice_of (part_of p) k)))
@@ -65,7 +59,7 @@ production-begins p ss k h = elim (choose p ss k h) [
   or-true true = refl
   or-true false = refl
 
-begins-by : (p : Production) (n : Part) (ss : List Symbol) (ts : List Token) → part_of p ≡ n → Begins (right p ++ ss) ts → Begins (Sub n ∷ ss) ts
+begins-by : (p : Production) (n : Part) (ss : List Symbol) (ts : List Token) → part_of p ≡ n → Begins (right_side p ++ ss) ts → Begins (Sub n ∷ ss) ts
 unfolding Begins
 begins-by p n ss [] e h = tt
 begins-by p n ss (t ∷ ts) e h = subst (λ m. begins (Sub m ∷ ss) t.kind ≡ true) e (production-begins p ss t.kind h)
@@ -92,54 +86,54 @@ begins-true d = begins-all d
 pub skip-step : {source : List ℕ} {k : Kind} {t : Token} {ss : List Symbol} {u : List Token} {b f : Builder} → Derives source (Skip k ∷ ss) (t ∷ u) b f → (same k t.kind ≡ true) × Derives source ss u b f
 skip-step (skip e d) = (e, d)
 
-pub keep-step : {source : List ℕ} {w : Term} {t : Token} {ss : List Symbol} {u : List Token} {b f : Builder} → Derives source (Keep w ∷ ss) (t ∷ u) b f → (matches w t.kind ≡ true) × Derives source ss u (held_then t b) f
+pub keep-step : {source : List ℕ} {w : Term} {t : Token} {ss : List Symbol} {u : List Token} {b f : Builder} → Derives source (Keep w ∷ ss) (t ∷ u) b f → (matches w t.kind ≡ true) × Derives source ss u (with_token t b) f
 keep-step (keep e d) = (e, d)
 
-pub act-step : {source : List ℕ} {a : Action} {ss : List Symbol} {ts : List Token} {b f : Builder} → Derives source (Act a ∷ ss) ts b f → Derives source ss ts (built source a b) f
+pub act-step : {source : List ℕ} {a : Action} {ss : List Symbol} {ts : List Token} {b f : Builder} → Derives source (Act a ∷ ss) ts b f → Derives source ss ts (builder_after source a b) f
 act-step (act d) = d
 
-by-step : {source : List ℕ} {n : Part} {ss : List Symbol} {ts : List Token} {b f : Builder} → Derives source (Sub n ∷ ss) ts b f → (p : Production) × (part_of p ≡ n) × Derives source (right p ++ ss) ts b f
+by-step : {source : List ℕ} {n : Part} {ss : List Symbol} {ts : List Token} {b f : Builder} → Derives source (Sub n ∷ ss) ts b f → (p : Production) × (part_of p ≡ n) × Derives source (right_side p ++ ss) ts b f
 by-step (by p e d) = (p, e, d)
 
 -- the production that a part goes by is one of the part
 production-part : (n : Part) (k : Kind) (p : Production) → production_of n k ≡ Some p → part_of p ≡ n
 production-part n k p e = step (choice_of n k) refl (empty_of n) refl e where
-  step : (c : Option Production) → choice_of n k ≡ c → (o : Option Production) → empty_of n ≡ o → or_else c o ≡ Some p → part_of p ≡ n
+  step : (c : Option Production) → choice_of n k ≡ c → (o : Option Production) → empty_of n ≡ o → choice_or c o ≡ Some p → part_of p ≡ n
   step (Some q) c o d e = choice-part n k p (c ∙ e)
   step None c o d e = empty-part n p (d ∙ e)
 
 some-same : (o : Option Production) (p q : Production) → o ≡ Some p → o ≡ Some q → p ≡ q
 some-same o p q e f = cc
 
-pub sub-step : {source : List ℕ} (n : Part) (t : Token) (p : Production) (ss : List Symbol) (u : List Token) (b f : Builder) → Fine (Sub n ∷ ss) → production_of n t.kind ≡ Some p → Derives source (Sub n ∷ ss) (t ∷ u) b f → Derives source (right p ++ ss) (t ∷ u) b f
+pub sub-step : {source : List ℕ} (n : Part) (t : Token) (p : Production) (ss : List Symbol) (u : List Token) (b f : Builder) → Fine (Sub n ∷ ss) → production_of n t.kind ≡ Some p → Derives source (Sub n ∷ ss) (t ∷ u) b f → Derives source (right_side p ++ ss) (t ∷ u) b f
 sub-step {source} n t p ss u b f fine e d =
-    let s : (q : Production) × (part_of q ≡ n) × Derives source (right q ++ ss) (t ∷ u) b f = by-step d in
+    let s : (q : Production) × (part_of q ≡ n) × Derives source (right_side q ++ ss) (t ∷ u) b f = by-step d in
     let q : Production = s.0 in
     elim (choose q ss t.kind (begins-true s.2)) [
       | inl a ↦
           let c : choice_of n t.kind ≡ Some q = subst (λ m. choice_of m t.kind ≡ Some q) s.1 a in
-          let g : production_of n t.kind ≡ Some q = ap (λ o. or_else o (empty_of n)) c in
+          let g : production_of n t.kind ≡ Some q = ap (λ o. choice_or o (empty_of n)) c in
           let h : q ≡ p = some-same (production_of n t.kind) q p g e in
-          subst (λ r. Derives source (right r ++ ss) (t ∷ u) b f) h s.2
+          subst (λ r. Derives source (right_side r ++ ss) (t ∷ u) b f) h s.2
       | inr a ↦
           let o : empty_of n ≡ Some q = subst (λ m. empty_of m ≡ Some q) s.1 a.0 in
           let c : choice_of n t.kind ≡ None = apart n t.kind q o (fine.0 t.kind a.1) in
-          let g : production_of n t.kind ≡ Some q = ap (λ x. or_else x (empty_of n)) c ∙ o in
+          let g : production_of n t.kind ≡ Some q = ap (λ x. choice_or x (empty_of n)) c ∙ o in
           let h : q ≡ p = some-same (production_of n t.kind) q p g e in
-          subst (λ r. Derives source (right r ++ ss) (t ∷ u) b f) h s.2
+          subst (λ r. Derives source (right_side r ++ ss) (t ∷ u) b f) h s.2
     ]
 
-pub sub-back : {source : List ℕ} (n : Part) (t : Token) (p : Production) (ss : List Symbol) (u : List Token) (b f : Builder) → production_of n t.kind ≡ Some p → Derives source (right p ++ ss) (t ∷ u) b f → Derives source (Sub n ∷ ss) (t ∷ u) b f
+pub sub-back : {source : List ℕ} (n : Part) (t : Token) (p : Production) (ss : List Symbol) (u : List Token) (b f : Builder) → production_of n t.kind ≡ Some p → Derives source (right_side p ++ ss) (t ∷ u) b f → Derives source (Sub n ∷ ss) (t ∷ u) b f
 sub-back n t p ss u b f e d = by p (production-part n t.kind p e) d
 
 pub sub-none : {source : List ℕ} (n : Part) (t : Token) (ss : List Symbol) (u : List Token) (b f : Builder) → production_of n t.kind ≡ None → Derives source (Sub n ∷ ss) (t ∷ u) b f → ⊥
 sub-none {source} n t ss u b f e d =
-    let s : (q : Production) × (part_of q ≡ n) × Derives source (right q ++ ss) (t ∷ u) b f = by-step d in
+    let s : (q : Production) × (part_of q ≡ n) × Derives source (right_side q ++ ss) (t ∷ u) b f = by-step d in
     let q : Production = s.0 in
     elim (choose q ss t.kind (begins-true s.2)) [
       | inl a ↦
           let c : choice_of n t.kind ≡ Some q = subst (λ m. choice_of m t.kind ≡ Some q) s.1 a in
-          none-some (production_of n t.kind) q e (ap (λ o. or_else o (empty_of n)) c)
+          none-some (production_of n t.kind) q e (ap (λ o. choice_or o (empty_of n)) c)
       | inr a ↦
           let o : empty_of n ≡ Some q = subst (λ m. empty_of m ≡ Some q) s.1 a.0 in
           none-else (choice_of n t.kind) (empty_of n) q o e
@@ -148,7 +142,7 @@ sub-none {source} n t ss u b f e d =
     none-some : (o : Option Production) (q : Production) → o ≡ None → o ≡ Some q → ⊥
     none-some o q e f = cc
 
-    none-else : (c o : Option Production) (q : Production) → o ≡ Some q → or_else c o ≡ None → ⊥
+    none-else : (c o : Option Production) (q : Production) → o ≡ Some q → choice_or c o ≡ None → ⊥
     none-else (Some r) o q f e = cc
     none-else None o q f e = cc
 
@@ -176,16 +170,16 @@ fine-append (Sub m ∷ xs) ss n h f fine = (
 )
   where
     implied-by : (a b c : Bool) → (implies a b && c) ≡ true → a ≡ true → b ≡ true
-    implied-by true b c h e = and-left b c h
+    implied-by true b c h e = (and_parts b c h).0
     implied-by false b c h e = cc
 
     rest : (a b c : Bool) → (implies a b && c) ≡ true → c ≡ true
-    rest a b c h = and-right (implies a b) c h
+    rest a b c h = (and_parts (implies a b) c h).1
 
-pub fine-step : (n : Part) (k : Kind) (p : Production) (ss : List Symbol) → production_of n k ≡ Some p → Fine (Sub n ∷ ss) → Fine (right p ++ ss)
+pub fine-step : (n : Part) (k : Kind) (p : Production) (ss : List Symbol) → production_of n k ≡ Some p → Fine (Sub n ∷ ss) → Fine (right_side p ++ ss)
 fine-step n k p ss e fine =
     let o : part_of p ≡ n = production-part n k p e in
-    fine-append (right p) ss (part_of p) (keeps p) (λ j h. subst (λ m. follows m j ≡ true) (sym o) (fine.0 j h)) fine.1
+    fine-append (right_side p) ss (part_of p) (keeps p) (λ j h. subst (λ m. follows m j ≡ true) (sym o) (fine.0 j h)) fine.1
 
 -- THE MEASURE
 
@@ -235,19 +229,19 @@ measure-lower k n (Act a ∷ xs) ss h = cc
 measure-lower k n (Skip j ∷ xs) ss h = (level-bounds n).0
 measure-lower k n (Keep w ∷ xs) ss h = (level-bounds n).0
 measure-lower k n (Sub m ∷ xs) ss h =
-    let some : is_some (choice_of m k) ≡ true = and-left (is_some (choice_of m k)) (nat_lt (level m) (level n)) h in
-    let less : nat_lt (level m) (level n) ≡ true = and-right (is_some (choice_of m k)) (nat_lt (level m) (level n)) h in
+    let some : is_some (choice_of m k) ≡ true = (and_parts (is_some (choice_of m k)) (nat_lt (level m) (level n)) h).0 in
+    let less : nat_lt (level m) (level n) ≡ true = (and_parts (is_some (choice_of m k)) (nat_lt (level m) (level n)) h).1 in
     rw some (below (level m) (level n) less)
   where
     below : (a b : ℕ) → nat_lt a b ≡ true → a < b
     below a b h = grind (arith, nat_tests)
 
-pub measure-step : (n : Part) (k : Kind) (p : Production) (ss : List Symbol) → production_of n k ≡ Some p → measure k (right p ++ ss) < measure k (Sub n ∷ ss)
+pub measure-step : (n : Part) (k : Kind) (p : Production) (ss : List Symbol) → production_of n k ≡ Some p → measure k (right_side p ++ ss) < measure k (Sub n ∷ ss)
 unfolding measure
 measure-step n k p ss e = step (choice_of n k) refl (empty_of n) refl e where
-  step : (c : Option Production) → choice_of n k ≡ c → (o : Option Production) → empty_of n ≡ o → or_else c o ≡ Some p → measure k (right p ++ ss) < cond (is_some c) (level n) (10 + size ss)
-  step (Some q) c o d e = measure-lower k n (right p) ss (choice-lower n k p (c ∙ e))
-  step None c o d e = measure-short k (right p) ss (empty-short n p (d ∙ e))
+  step : (c : Option Production) → choice_of n k ≡ c → (o : Option Production) → empty_of n ≡ o → choice_or c o ≡ Some p → measure k (right_side p ++ ss) < cond (is_some c) (level n) (10 + size ss)
+  step (Some q) c o d e = measure-lower k n (right_side p) ss (choice-lower n k p (c ∙ e))
+  step None c o d e = measure-short k (right_side p) ss (empty-short n p (d ∙ e))
 
 -- STEPS AT THE END
 
@@ -266,18 +260,18 @@ empties-rest [] ss h = h
 empties-rest (Skip j ∷ xs) ss h = cc
 empties-rest (Keep w ∷ xs) ss h = cc
 empties-rest (Act a ∷ xs) ss h = empties-rest xs ss h
-empties-rest (Sub n ∷ xs) ss h = empties-rest xs ss (and-right (is_some (empty_of n)) (empties (xs ++ ss)) h)
+empties-rest (Sub n ∷ xs) ss h = empties-rest xs ss ((and_parts (is_some (empty_of n)) (empties (xs ++ ss)) h).1)
 
 Emptied : List Symbol → List Token → Type 0
 Emptied ss [] = empties ss ≡ true
 Emptied ss (t ∷ ts) = Unit {0}
 
-emptied-by : (p : Production) (n : Part) (ss : List Symbol) (ts : List Token) → part_of p ≡ n → Emptied (right p ++ ss) ts → Emptied (Sub n ∷ ss) ts
+emptied-by : (p : Production) (n : Part) (ss : List Symbol) (ts : List Token) → part_of p ≡ n → Emptied (right_side p ++ ss) ts → Emptied (Sub n ∷ ss) ts
 unfolding Emptied
 emptied-by p n ss (t ∷ ts) e h = tt
 emptied-by p n ss [] e h =
-    let o : empty_of n ≡ Some p = subst (λ m. empty_of m ≡ Some p) e (empties-chosen p (empties-front (right p) ss h)) in
-    rw (is-some (empty_of n) p o) (empties-rest (right p) ss h)
+    let o : empty_of n ≡ Some p = subst (λ m. empty_of m ≡ Some p) e (empties-chosen p (empties-front (right_side p) ss h)) in
+    rw (is-some (empty_of n) p o) (empties-rest (right_side p) ss h)
 
 emptied-act : (a : Action) (ss : List Symbol) (ts : List Token) → Emptied ss ts → Emptied (Act a ∷ ss) ts
 unfolding Emptied
@@ -296,21 +290,21 @@ emptied-true : {source : List ℕ} {ss : List Symbol} {b f : Builder} → Derive
 unfolding Emptied
 emptied-true d = emptied-all d
 
-pub end-step : {source : List ℕ} (n : Part) (p : Production) (ss : List Symbol) (b f : Builder) → empty_of n ≡ Some p → Derives source (Sub n ∷ ss) [] b f → Derives source (right p ++ ss) [] b f
+pub end-step : {source : List ℕ} (n : Part) (p : Production) (ss : List Symbol) (b f : Builder) → empty_of n ≡ Some p → Derives source (Sub n ∷ ss) [] b f → Derives source (right_side p ++ ss) [] b f
 end-step {source} n p ss b f e d =
-    let s : (q : Production) × (part_of q ≡ n) × Derives source (right q ++ ss) [] b f = by-step d in
+    let s : (q : Production) × (part_of q ≡ n) × Derives source (right_side q ++ ss) [] b f = by-step d in
     let q : Production = s.0 in
-    let o : empty_of n ≡ Some q = subst (λ m. empty_of m ≡ Some q) s.1 (empties-chosen q (empties-front (right q) ss (emptied-true s.2))) in
-    subst (λ r. Derives source (right r ++ ss) [] b f) (some-same (empty_of n) q p o e) s.2
+    let o : empty_of n ≡ Some q = subst (λ m. empty_of m ≡ Some q) s.1 (empties-chosen q (empties-front (right_side q) ss (emptied-true s.2))) in
+    subst (λ r. Derives source (right_side r ++ ss) [] b f) (some-same (empty_of n) q p o e) s.2
 
-pub end-back : {source : List ℕ} (n : Part) (p : Production) (ss : List Symbol) (b f : Builder) → empty_of n ≡ Some p → Derives source (right p ++ ss) [] b f → Derives source (Sub n ∷ ss) [] b f
+pub end-back : {source : List ℕ} (n : Part) (p : Production) (ss : List Symbol) (b f : Builder) → empty_of n ≡ Some p → Derives source (right_side p ++ ss) [] b f → Derives source (Sub n ∷ ss) [] b f
 end-back n p ss b f e d = by p (empty-part n p e) d
 
 pub end-none : {source : List ℕ} (n : Part) (ss : List Symbol) (b f : Builder) → empty_of n ≡ None → Derives source (Sub n ∷ ss) [] b f → ⊥
 end-none {source} n ss b f e d =
-    let s : (q : Production) × (part_of q ≡ n) × Derives source (right q ++ ss) [] b f = by-step d in
+    let s : (q : Production) × (part_of q ≡ n) × Derives source (right_side q ++ ss) [] b f = by-step d in
     let q : Production = s.0 in
-    let o : empty_of n ≡ Some q = subst (λ m. empty_of m ≡ Some q) s.1 (empties-chosen q (empties-front (right q) ss (emptied-true s.2))) in
+    let o : empty_of n ≡ Some q = subst (λ m. empty_of m ≡ Some q) s.1 (empties-chosen q (empties-front (right_side q) ss (emptied-true s.2))) in
     cc
 
 pub end-skip : {source : List ℕ} {k : Kind} {ss : List Symbol} {b f : Builder} → Derives source (Skip k ∷ ss) [] b f → ⊥
@@ -325,13 +319,9 @@ end-done done = refl
 pub end-token : {source : List ℕ} {t : Token} {u : List Token} {b f : Builder} → Derives source [] (t ∷ u) b f → ⊥
 end-token d = elim d [ ]
 
--- the measure at the end
-unfoldable pub end_measure : List Symbol → ℕ
+-- the size is the measure at the end
+pub end-measure-act : (a : Action) (ss : List Symbol) → size ss < size (Act a ∷ ss)
 unfolding size
-end_measure ss = size ss
-
-pub end-measure-act : (a : Action) (ss : List Symbol) → end_measure ss < end_measure (Act a ∷ ss)
-unfolding end_measure size
 end-measure-act a ss = omega arith
 
 end-short : (xs ss : List Symbol) → is_short xs ≡ true → size (xs ++ ss) < 2 + size ss
@@ -343,6 +333,6 @@ end-short (Skip j ∷ xs) ss h = cc
 end-short (Keep w ∷ xs) ss h = cc
 end-short (Sub m ∷ xs) ss h = cc
 
-pub end-measure-step : (n : Part) (p : Production) (ss : List Symbol) → empty_of n ≡ Some p → end_measure (right p ++ ss) < end_measure (Sub n ∷ ss)
-unfolding end_measure size
-end-measure-step n p ss e = end-short (right p) ss (empty-short n p e)
+pub end-measure-step : (n : Part) (p : Production) (ss : List Symbol) → empty_of n ≡ Some p → size (right_side p ++ ss) < size (Sub n ∷ ss)
+unfolding size
+end-measure-step n p ss e = end-short (right_side p) ss (empty-short n p e)

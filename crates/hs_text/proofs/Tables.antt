@@ -1,4 +1,5 @@
 use Rattle.std.proofs.Common.{ℕ, ◌<◌, ◌≡◌, Bool, true, false, ◌||◌, ◌&&◌, List, [], ◌∷◌, Option, Some, None, is_some, nat_eq, nat_lt, refl, ap, lit<}
+use Rattle.std.proofs.lemmas.Bool.{and_parts}
 use Rattle.std.specs.List.{list_all}
 use Rattle.hs_tokens.specs.declared.token.Kind.{Kind}
 use Rattle.hs_text.specs.declared.grammar.Part.{Part}
@@ -9,8 +10,8 @@ use Rattle.hs_text.specs.declared.grammar.Symbol.{Symbol}
 use Rattle.hs_text.specs.declared.grammar.Symbol.TheVariants.{Skip, Keep, Sub, Act}
 use Rattle.hs_tokens.specs.Kinds.{same}
 use Rattle.hs_text.specs.Terms.{matches}
-use Rattle.hs_text.specs.Machine.{part_of, right, choice_of, empty_of, begins, follows}
-use Rattle.hs_text.proofs.Numbering.{and-left, and-right, kinds, every, rank, rank-same, order, order-same}
+use Rattle.hs_text.specs.Machine.{part_of, right_side, choice_of, empty_of, begins, follows}
+use Rattle.hs_text.proofs.Numbering.{kinds, every, rank, rank-same, order, order-same}
 
 -- Tests that are computed: of each production or part, for each kind.
 
@@ -46,7 +47,7 @@ empties (Sub n ∷ ss) = is_some (empty_of n) && empties ss
 
 -- 1. the production that begins with a kind is the one that is chosen at it
 chosen_row : Production → Bool
-chosen_row p = list_all (λ k. implies (begins (right p) k) (chosen (choice_of (part_of p) k) p)) kinds
+chosen_row p = list_all (λ k. implies (begins (right_side p) k) (chosen (choice_of (part_of p) k) p)) kinds
 
 chosen_rows : (p : Production) → chosen_row p ≡ true
 unfolding chosen_row chosen rank kinds
@@ -117,13 +118,13 @@ chosen_rows production.BoundVariable = refl
 chosen_rows production.ValueAtom = refl
 chosen_rows production.ValueMinus = refl
 
-pub begins-chosen : (p : Production) (k : Kind) → begins (right p) k ≡ true → choice_of (part_of p) k ≡ Some p
+pub begins-chosen : (p : Production) (k : Kind) → begins (right_side p) k ≡ true → choice_of (part_of p) k ≡ Some p
 unfolding chosen_row
-begins-chosen p k h = chosen-is (choice_of (part_of p) k) p (implied (begins (right p) k) (chosen (choice_of (part_of p) k) p) (every (λ j. implies (begins (right p) j) (chosen (choice_of (part_of p) j) p)) (chosen_rows p) k) h)
+begins-chosen p k h = chosen-is (choice_of (part_of p) k) p (implied (begins (right_side p) k) (chosen (choice_of (part_of p) k) p) (every (λ j. implies (begins (right_side p) j) (chosen (choice_of (part_of p) j) p)) (chosen_rows p) k) h)
 
 -- 2. the production that may be nothing is the one by which its part is nothing
 empty_row : Production → Bool
-empty_row p = implies (empties (right p)) (chosen (empty_of (part_of p)) p)
+empty_row p = implies (empties (right_side p)) (chosen (empty_of (part_of p)) p)
 
 empty_rows : (p : Production) → empty_row p ≡ true
 unfolding empty_row chosen rank
@@ -194,9 +195,9 @@ empty_rows production.BoundVariable = refl
 empty_rows production.ValueAtom = refl
 empty_rows production.ValueMinus = refl
 
-pub empties-chosen : (p : Production) → empties (right p) ≡ true → empty_of (part_of p) ≡ Some p
+pub empties-chosen : (p : Production) → empties (right_side p) ≡ true → empty_of (part_of p) ≡ Some p
 unfolding empty_row
-empties-chosen p h = chosen-is (empty_of (part_of p)) p (implied (empties (right p)) (chosen (empty_of (part_of p)) p) (empty_rows p) h)
+empties-chosen p h = chosen-is (empty_of (part_of p)) p (implied (empties (right_side p)) (chosen (empty_of (part_of p)) p) (empty_rows p) h)
 
 -- 3. what may follow a part that may be nothing begins none of its productions
 apart_row : Part → Bool
@@ -295,7 +296,7 @@ lower (Sub m ∷ ss) n k = is_some (choice_of m k) && nat_lt (level m) (level n)
 
 descends : Part → Kind → Option Production → Bool
 descends n k None = true
-descends n k (Some p) = nat_eq (order (part_of p)) (order n) && lower (right p) n k
+descends n k (Some p) = nat_eq (order (part_of p)) (order n) && lower (right_side p) n k
 
 descent_row : Part → Bool
 descent_row n = list_all (λ k. descends n k (choice_of n k)) kinds
@@ -337,15 +338,15 @@ descent_rows part.Bind = refl
 descent_rows part.Bound = refl
 descent_rows part.Value = refl
 
-choice-descends : (n : Part) (k : Kind) (p : Production) → choice_of n k ≡ Some p → (nat_eq (order (part_of p)) (order n) && lower (right p) n k) ≡ true
+choice-descends : (n : Part) (k : Kind) (p : Production) → choice_of n k ≡ Some p → (nat_eq (order (part_of p)) (order n) && lower (right_side p) n k) ≡ true
 unfolding descent_row descends
 choice-descends n k p e = rw e at (every (λ j. descends n j (choice_of n j)) (descent_rows n) k)
 
 pub choice-part : (n : Part) (k : Kind) (p : Production) → choice_of n k ≡ Some p → part_of p ≡ n
-choice-part n k p e = order-same (part_of p) n (and-left (nat_eq (order (part_of p)) (order n)) (lower (right p) n k) (choice-descends n k p e))
+choice-part n k p e = order-same (part_of p) n ((and_parts (nat_eq (order (part_of p)) (order n)) (lower (right_side p) n k) (choice-descends n k p e)).0)
 
-pub choice-lower : (n : Part) (k : Kind) (p : Production) → choice_of n k ≡ Some p → lower (right p) n k ≡ true
-choice-lower n k p e = and-right (nat_eq (order (part_of p)) (order n)) (lower (right p) n k) (choice-descends n k p e)
+pub choice-lower : (n : Part) (k : Kind) (p : Production) → choice_of n k ≡ Some p → lower (right_side p) n k ≡ true
+choice-lower n k p e = (and_parts (nat_eq (order (part_of p)) (order n)) (lower (right_side p) n k) (choice-descends n k p e)).1
 
 pub level-bounds : (n : Part) → (0 < level n) × (level n < 8)
 unfolding level
@@ -426,7 +427,7 @@ is_short [] = true
 is_short (Act a ∷ []) = true
 is_short _ = false
 
-pub empty-short : (n : Part) (p : Production) → empty_of n ≡ Some p → is_short (right p) ≡ true
+pub empty-short : (n : Part) (p : Production) → empty_of n ≡ Some p → is_short (right_side p) ≡ true
 empty-short part.Text p e = let f : p ≡ production.TextEnd = cc in rw f refl
 empty-short part.Definition p e = cc
 empty-short part.Params p e = cc
@@ -478,7 +479,7 @@ kept (Act a ∷ ss) k b = kept ss k b
 kept (Sub m ∷ ss) k b = implies (begins_then ss k b) (follows m k) && kept ss k b
 
 kept_row : Production → Bool
-kept_row p = list_all (λ k. kept (right p) k (follows (part_of p) k)) kinds
+kept_row p = list_all (λ k. kept (right_side p) k (follows (part_of p) k)) kinds
 
 kept_rows : (p : Production) → kept_row p ≡ true
 unfolding kept_row kinds
@@ -549,6 +550,6 @@ kept_rows production.BoundVariable = refl
 kept_rows production.ValueAtom = refl
 kept_rows production.ValueMinus = refl
 
-pub keeps : (p : Production) (k : Kind) → kept (right p) k (follows (part_of p) k) ≡ true
+pub keeps : (p : Production) (k : Kind) → kept (right_side p) k (follows (part_of p) k) ≡ true
 unfolding kept_row
-keeps p k = every (λ j. kept (right p) j (follows (part_of p) j)) (kept_rows p) k
+keeps p k = every (λ j. kept (right_side p) j (follows (part_of p) j)) (kept_rows p) k

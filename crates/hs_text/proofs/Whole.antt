@@ -9,14 +9,14 @@ use Rattle.hs_text.specs.declared.syntax.Definition.{Definition}
 use Rattle.hs_text.specs.declared.builder.Builder.{Builder}
 use Rattle.hs_text.specs.Grammar.{IsText}
 use Rattle.hs_text.specs.Building.{no_builder}
-use Rattle.hs_text.specs.Machine.{Derives, Fine, Taken, Refused, IsEnd, IsCutOff}
-use Rattle.hs_tokens.specs.declared.token.Place.{Place}
+use Rattle.hs_text.specs.Machine.{Derives, Fine, TakesToken, RefusesToken, IsEnd, IsCutOff}
+use Rattle.hs_tokens.specs.declared.token.Position.{Position}
+use Rattle.hs_tokens.specs.declared.fault.FaultKind.{FaultKind}
 use Rattle.hs_tokens.specs.declared.fault.FaultKind.TheVariants as fault
 use Rattle.hs_tokens.specs.declared.fault.TextFault.{TextFault}
-use Rattle.hs_tokens.specs.declared.fault.TextFault.TheVariants.{NoMemory, Fault}
-use Rattle.hs_tokens.specs.Tokens.{first_place, after}
+use Rattle.hs_tokens.specs.Tokens.{text_start, after}
 use Rattle.hs_tokens.specs.Lexing.{Ending, Whole, TooLarge, Strange, EndsSo, IsTokenFault}
-use Rattle.hs_text.specs.Parsing.{AreTokens, Begins, IsFirstWrong, IsUnfinished, IsGrammarFault, IsTextFault}
+use Rattle.hs_text.specs.Parsing.{AreTokens, Begins, IsFirstWrong, IsUnfinished, IsGrammarFault, IsGrammarFaultBy, IsTextFault, IsTextFaultBy}
 use Rattle.hs_text.proofs.Effects.{Fresh}
 use Rattle.hs_text.proofs.Reading.{read}
 use Rattle.hs_text.proofs.Writing.{written}
@@ -34,7 +34,7 @@ pub stands-first : (source : List ℕ) (stack : List Symbol) (b : Builder) → s
 stands-first source stack b e h = rw (e, h) (record { fine = ((λ k x. cc), tt); same_texts = λ u f. ((λ d. d), (λ d. d)) })
 
 module _ (source : List ℕ) (front : List Token) (stack : List Symbol) (b : Builder) (stands : Stands source front stack b) where
-  pub stands-next : (t : Token) (after : List Token) (new : List Symbol) (c : Builder) → Taken source stack b t new c → after ≡ front ++ t ∷ [] → Stands source after new c
+  pub stands-next : (t : Token) (after : List Token) (new : List Symbol) (c : Builder) → TakesToken source stack b t new c → after ≡ front ++ t ∷ [] → Stands source after new c
   stands-next t after new c taken e = record {
     fine = taken.fine;
     same_texts = λ u f.
@@ -50,7 +50,7 @@ module _ (source : List ℕ) (front : List Token) (stack : List Symbol) (b : Bui
       let r = read source nothing-made ((stands.same_texts d.0 d.1).1 d.2) in
       (d.0, r.0, r.1)
 
-  pub stands-wrong : (t : Token) → Refused source stack b t → Begins source (front ++ t ∷ []) → ⊥
+  pub stands-wrong : (t : Token) → RefusesToken source stack b t → Begins source (front ++ t ∷ []) → ⊥
   stands-wrong t refused h =
       let d : Derives source (Sub part.Text ∷ []) ((front ++ t ∷ []) ++ h.0) no_builder (record no_builder { definitions = h.1 }) = written source no_builder nothing-made h.2 in
       let w : (front ++ t ∷ []) ++ h.0 ≡ front ++ (t ∷ h.0) = append_assoc front (t ∷ []) h.0 in
@@ -59,7 +59,7 @@ module _ (source : List ℕ) (front : List Token) (stack : List Symbol) (b : Bui
 
   pub stands-unfinished : IsCutOff source stack b → IsUnfinished source front
   stands-unfinished cut = record {
-    right = stands-begins;
+    begins = stands-begins;
     no_text = λ ds t.
         let d : Derives source (Sub part.Text ∷ []) front no_builder (record no_builder { definitions = ds }) = written source no_builder nothing-made t in
         cut (record no_builder { definitions = ds }) ((stands.same_texts [] (record no_builder { definitions = ds })).0
@@ -75,15 +75,15 @@ module _ (source : List ℕ) (front : List Token) (stack : List Symbol) (b : Bui
 first-wrong : (source : List ℕ) (ts : List Token) (i : ℕ) (d : Token) → i < length ts → Begins source (take i ts) → (Begins source (take i ts ++ get_or ts i d ∷ []) → ⊥) → IsFirstWrong source ts (get_or ts i d)
 first-wrong source ts i d h right wrong = record {
   front = take i ts;
-  behind = drop (i + 1) ts;
-  whole = sym (take-append-drop i ts) ∙ ap (λ x. take i ts ++ x) (drop_more ts i d h);
-  right = right;
+  rest = drop (i + 1) ts;
+  parts = sym (take-append-drop i ts) ∙ ap (λ x. take i ts ++ x) (drop_more ts i d h);
+  begins = right;
   wrong = wrong;
 }
 
 -- the faults and the syntax, from what the code knows at its ends
-module _ (source : List ℕ) (ts listed : List Token) (end : Place) (i : ℕ) (stack : List Symbol) (b : Builder) (same : listed ≡ ts) (stands : Stands source (take i listed) stack b) where
-  pub order-fault : (d : Token) (r : Bool) (e : TextFault) → i < length listed → r ≡ false → OnFalse r (Refused source stack b (get_or listed i d)) → e ≡ Fault (get_or listed i d).span.line (get_or listed i d).span.column fault.Order → IsGrammarFault source ts end e
+module _ (source : List ℕ) (ts listed : List Token) (end : Position) (i : ℕ) (stack : List Symbol) (b : Builder) (same : listed ≡ ts) (stands : Stands source (take i listed) stack b) where
+  pub order-fault : (d : Token) (r : Bool) (e : TextFault) → i < length listed → r ≡ false → OnFalse r (RefusesToken source stack b (get_or listed i d)) → e ≡ record { line = (get_or listed i d).span.line; column = (get_or listed i d).span.column; kind = fault.Order } → IsGrammarFault source ts end e
   order-fault d true e h t refused is = cc
   order-fault d false e h t refused is =
       let t = get_or listed i d in
@@ -93,7 +93,7 @@ module _ (source : List ℕ) (ts listed : List Token) (end : Place) (i : ℕ) (s
   all-taken : length listed ≤ i → take i listed ≡ ts
   all-taken h = take_all i listed h ∙ same
 
-  pub end-fault : (r : Bool) (e : TextFault) → length listed ≤ i → r ≡ false → OnFalse r (IsCutOff source stack b) → e ≡ Fault end.line end.column fault.End → IsGrammarFault source ts end e
+  pub end-fault : (r : Bool) (e : TextFault) → length listed ≤ i → r ≡ false → OnFalse r (IsCutOff source stack b) → e ≡ record { line = end.line; column = end.column; kind = fault.End } → IsGrammarFault source ts end e
   end-fault true e h t cut is = cc
   end-fault false e h t cut is = subst (λ x. IsGrammarFault source ts end x) (sym is) (subst (λ x. IsUnfinished source x) (all-taken h) (stands-unfinished source (take i listed) stack b stands cut), refl, refl)
 
@@ -102,25 +102,29 @@ module _ (source : List ℕ) (ts listed : List Token) (end : Place) (i : ℕ) (s
   whole-text true c ds h t ended is = subst (λ x. IsText source ts x) (sym is) (subst (λ x. IsText source x c.definitions) (all-taken h) (stands-text source (take i listed) stack b stands c ended))
 
 -- a wrong token is the text's fault
+no-order : (line column : ℕ) (e : Ending) → EndsSo fault.Order line column e → ⊥
+no-order line column Whole h = h
+no-order line column (TooLarge p) h = h
+no-order line column (Strange p) h = h
+
+no-end : (line column : ℕ) (e : Ending) → EndsSo fault.End line column e → ⊥
+no-end line column Whole h = h
+no-end line column (TooLarge p) h = h
+no-end line column (Strange p) h = h
+
 pub token-fault : (source : List ℕ) (e : TextFault) → IsTokenFault source e → IsTextFault source e
-token-fault source NoMemory h = tt
-token-fault source (Fault line column fault.Character) h = h
-token-fault source (Fault line column fault.Number) h = h
-token-fault source (Fault line column fault.Order) h = absurd (none-so h.1 h.3) where
-  none-so : (e : Ending) → EndsSo fault.Order line column e → ⊥
-  none-so Whole h = h
-  none-so (TooLarge p) h = h
-  none-so (Strange p) h = h
-token-fault source (Fault line column fault.End) h = absurd (none-so h.1 h.3) where
-  none-so : (e : Ending) → EndsSo fault.End line column e → ⊥
-  none-so Whole h = h
-  none-so (TooLarge p) h = h
-  none-so (Strange p) h = h
+token-fault source e h = step e.kind h.3 where
+  step : (k : FaultKind) → EndsSo k e.line e.column h.1 → IsTextFaultBy k source e
+  step fault.Character w = h
+  step fault.Number w = h
+  step fault.Order w = absurd (no-order e.line e.column h.1 w)
+  step fault.End w = absurd (no-end e.line e.column h.1 w)
 
 -- so is a fault of the grammar, where all are tokens
-pub grammar-fault : (source : List ℕ) (ts : List Token) (end : Place) (e : TextFault) → AreTokens source ts → end ≡ after first_place source → IsGrammarFault source ts end e → IsTextFault source e
-grammar-fault source ts end NoMemory t w h = tt
-grammar-fault source ts end (Fault line column fault.Order) t w h = (ts, t, h)
-grammar-fault source ts end (Fault line column fault.End) t w h = (ts, t, subst (λ x. IsGrammarFault source ts x (Fault line column fault.End)) w h)
-grammar-fault source ts end (Fault line column fault.Character) t w h = absurd h
-grammar-fault source ts end (Fault line column fault.Number) t w h = absurd h
+pub grammar-fault : (source : List ℕ) (ts : List Token) (end : Position) (e : TextFault) → AreTokens source ts → end ≡ after text_start source → IsGrammarFault source ts end e → IsTextFault source e
+grammar-fault source ts end e t w h = step e.kind h refl where
+  step : (k : FaultKind) → IsGrammarFaultBy k source ts end e → e.kind ≡ k → IsTextFaultBy k source e
+  step fault.Order h is = (ts, t, subst (λ k. IsGrammarFaultBy k source ts (after text_start source) e) (sym is) h)
+  step fault.End h is = (ts, t, subst (λ k. IsGrammarFaultBy k source ts (after text_start source) e) (sym is) (subst (λ x. IsGrammarFaultBy fault.End source ts x e) w h))
+  step fault.Character h is = absurd h
+  step fault.Number h is = absurd h

@@ -1,4 +1,5 @@
 use Rattle.std.proofs.Common.{ℕ, ◌+◌, ◌-◌, ◌*◌, ◌/◌, ◌%◌, ◌<◌, ◌≤◌, ◌^◌, ◌≡◌, ◌==◌, ◌||◌, ◌&&◌, cond, List, [], ◌∷◌, ◌++◌, Bool, true, false, nat_eq, nat_le, nat_lt, codes, lit<, refl, ap, sym, subst, ◌∙◌, arith, append_assoc, encode_utf8_all}
+use Rattle.std.proofs.lemmas.Bool.{and_parts, and_from}
 use Rattle.std.specs.List.{list_all, flat_map}
 use Rattle.std.specs.Str.{chars, all_scalars}
 use Rattle.std.specs.Char.{encode_utf8}
@@ -9,28 +10,25 @@ use Rattle.std.proofs.lemmas.Str.{encodes-append, encode_ascii, encodes-IsAscii,
 use Rattle.std.proofs.lemmas.Bool.Decides.{nat_tests}
 use Rattle.hs_expr.specs.declared.Piece.{Piece}
 use Rattle.hs_expr.specs.declared.Piece.TheVariants as piece
-use Rattle.hs_tokens.specs.Tokens.{is_letter, is_digit, is_word_part, is_word, is_integer, is_text, is_lexeme, is_escaped, is_nil, closes, decimal_from, value_of}
+use Rattle.hs_expr.specs.Characters.{is_letter, is_digit}
+use Rattle.hs_tokens.specs.Tokens.{is_word, is_integer, is_text, is_lexeme, is_escaped, is_nil, closes, decimal_from, token_value}
 use Rattle.hs_tokens.specs.Tokens as tokens
 use Rattle.hs_text.specs.Words.{content}
-use Rattle.hs_text.specs.Trees.{Tree, Leaf, Not, Minus, Binary}
+use Rattle.hs_expr.specs.Trees.{Tree, Leaf, Not, Minus, Binary}
 use Rattle.hs_text.specs.WellFormed.{is_allowed, IsAllowed, IsPieceFine}
 use Rattle.hs_text.specs.Canonical.{escape, quoted_text, truth_text, sign_text}
 use Rattle.hs_text.proofs.Escapes.{plain, as-it-is}
 use Rattle.hs_text.proofs.Grown.{IsLeaf}
-use Rattle.hs_text.proofs.Marks.{scalars-both, ascii-scalars, both-left, both-right, Mark, Lexeme, Blank, spelled, IsSpaced, stops, no_arrow, integer-longest, text-longest, low-same}
+use Rattle.hs_text.proofs.Marks.{scalars-both, ascii-scalars, Mark, Lexeme, Blank, spelled, IsSpaced, stops, no_arrow, integer-longest, text-longest, low-same}
 
 -- NUMBERS
 
-both-true : (a b : Bool) → a ≡ true → b ≡ true → (a && b) ≡ true
-both-true true b h k = k
-both-true false b h k = cc
-
 digits-more : (ds : List ℕ) (d : ℕ) → is_integer ds ≡ true → is_digit d ≡ true → is_integer (ds ++ d ∷ []) ≡ true
 digits-more [] d h k = cc
-digits-more (c ∷ ds) d h k = both-true (is_digit c) (list_all is_digit (ds ++ d ∷ [])) (both-left (is_digit c) (list_all is_digit ds) h) (all-more ds (both-right (is_digit c) (list_all is_digit ds) h)) where
+digits-more (c ∷ ds) d h k = and_from (is_digit c) (list_all is_digit (ds ++ d ∷ [])) ((and_parts (is_digit c) (list_all is_digit ds) h).0) (all-more ds ((and_parts (is_digit c) (list_all is_digit ds) h).1)) where
   all-more : (ds : List ℕ) → list_all is_digit ds ≡ true → list_all is_digit (ds ++ d ∷ []) ≡ true
   all-more [] h = ap (λ b. b && true) k
-  all-more (c ∷ ds) h = both-true (is_digit c) (list_all is_digit (ds ++ d ∷ [])) (both-left (is_digit c) (list_all is_digit ds) h) (all-more ds (both-right (is_digit c) (list_all is_digit ds) h))
+  all-more (c ∷ ds) h = and_from (is_digit c) (list_all is_digit (ds ++ d ∷ [])) ((and_parts (is_digit c) (list_all is_digit ds) h).0) (all-more ds ((and_parts (is_digit c) (list_all is_digit ds) h).1))
 
 from-more : (n : ℕ) (ds : List ℕ) (d : ℕ) → decimal_from n (ds ++ d ∷ []) ≡ 10 * decimal_from n ds + (d - 48)
 from-more n [] d = refl
@@ -99,11 +97,11 @@ escapes c h = step (c == 34) (c == 92) (c == 10) (c == 9) refl refl refl refl wh
 
 pub quoted-closes : (cs : List ℕ) → list_all is_allowed cs ≡ true → closes false (flat_map escape cs ++ 34 ∷ []) ≡ true
 quoted-closes [] h = refl
-quoted-closes (c ∷ cs) h = ap (closes false) (append_assoc (escape c) (flat_map escape cs) (34 ∷ [])) ∙ (escapes c (both-left (is_allowed c) (list_all is_allowed cs) h)).0 (flat_map escape cs ++ 34 ∷ []) ∙ quoted-closes cs (both-right (is_allowed c) (list_all is_allowed cs) h)
+quoted-closes (c ∷ cs) h = ap (closes false) (append_assoc (escape c) (flat_map escape cs) (34 ∷ [])) ∙ (escapes c ((and_parts (is_allowed c) (list_all is_allowed cs) h).0)).0 (flat_map escape cs ++ 34 ∷ []) ∙ quoted-closes cs ((and_parts (is_allowed c) (list_all is_allowed cs) h).1)
 
 pub quoted-means : (cs : List ℕ) → list_all is_allowed cs ≡ true → content false (flat_map escape cs ++ 34 ∷ []) ≡ cs
 quoted-means [] h = refl
-quoted-means (c ∷ cs) h = ap (content false) (append_assoc (escape c) (flat_map escape cs) (34 ∷ [])) ∙ (escapes c (both-left (is_allowed c) (list_all is_allowed cs) h)).1 (flat_map escape cs ++ 34 ∷ []) ∙ ap (λ x. c ∷ x) (quoted-means cs (both-right (is_allowed c) (list_all is_allowed cs) h))
+quoted-means (c ∷ cs) h = ap (content false) (append_assoc (escape c) (flat_map escape cs) (34 ∷ [])) ∙ (escapes c ((and_parts (is_allowed c) (list_all is_allowed cs) h).0)).1 (flat_map escape cs ++ 34 ∷ []) ∙ ap (λ x. c ∷ x) (quoted-means cs ((and_parts (is_allowed c) (list_all is_allowed cs) h).1))
 
 flat-both : (xs ys : List ℕ) → flat_map escape (xs ++ ys) ≡ flat_map escape xs ++ flat_map escape ys
 flat-both [] ys = refl
@@ -111,8 +109,8 @@ flat-both (x ∷ xs) ys = ap (λ z. escape x ++ z) (flat-both xs ys) ∙ sym (ap
 
 quoted-bytes : (cs : List ℕ) → list_all is_allowed cs ≡ true → encode_utf8_all (flat_map escape cs) ≡ flat_map escape (encode_utf8_all cs)
 quoted-bytes [] h = refl
-quoted-bytes (c ∷ cs) h = encodes-append (escape c) (flat_map escape cs) ∙ ap (λ x. x ++ encode_utf8_all (flat_map escape cs)) (escapes c (both-left (is_allowed c) (list_all is_allowed cs) h)).2
-    ∙ ap (λ x. flat_map escape (encode_utf8 c) ++ x) (quoted-bytes cs (both-right (is_allowed c) (list_all is_allowed cs) h)) ∙ sym (flat-both (encode_utf8 c) (encode_utf8_all cs))
+quoted-bytes (c ∷ cs) h = encodes-append (escape c) (flat_map escape cs) ∙ ap (λ x. x ++ encode_utf8_all (flat_map escape cs)) (escapes c ((and_parts (is_allowed c) (list_all is_allowed cs) h).0)).2
+    ∙ ap (λ x. flat_map escape (encode_utf8 c) ++ x) (quoted-bytes cs ((and_parts (is_allowed c) (list_all is_allowed cs) h).1)) ∙ sym (flat-both (encode_utf8 c) (encode_utf8_all cs))
 
 abbrev pub quoted_chars : List ℕ → List ℕ
 quoted_chars value = 34 ∷ (flat_map escape (chars value) ++ 34 ∷ [])
@@ -128,7 +126,7 @@ scalar-escape c h = step (c == 34) (c == 92) (c == 10) (c == 9) where
 
 escaped-scalars : (cs : List ℕ) → all_scalars cs ≡ true → all_scalars (flat_map escape cs) ≡ true
 escaped-scalars [] h = refl
-escaped-scalars (c ∷ cs) h = scalars-both (escape c) (flat_map escape cs) (scalar-escape c (one _ (all_scalars cs) h)) (escaped-scalars cs (both-right _ (all_scalars cs) h)) where
+escaped-scalars (c ∷ cs) h = scalars-both (escape c) (flat_map escape cs) (scalar-escape c (one _ (all_scalars cs) h)) (escaped-scalars cs ((and_parts _ (all_scalars cs) h).1)) where
   one : (a b : Bool) → (a && b) ≡ true → (a && true) ≡ true
   one true b h = refl
   one false b h = cc
@@ -144,7 +142,7 @@ text-mark value ms h s = (text-longest (quoted_chars value) (spelled ms) (quoted
       ∙ ap (λ x. 34 ∷ x) (encodes-append (flat_map escape (chars value)) (34 ∷ []) ∙ ap (λ x. encode_utf8_all (flat_map escape (chars value)) ++ x) (low-same (34 ∷ []) refl)
       ∙ ap (λ x. x ++ 34 ∷ []) (quoted-bytes (chars value) h.1 ∙ ap (flat_map escape) (encodes-chars value (IsUtf8-from_is_utf8 value h.0))))
 
-pub value-is : (ds : List ℕ) (n : ℕ) → IsNumber n ds → value_of ds ≡ n
+pub value-is : (ds : List ℕ) (n : ℕ) → IsNumber n ds → token_value ds ≡ n
 value-is ds n h = step (is_integer ds) h.0 where
   step : (b : Bool) → b ≡ true → cond b (tokens.decimal ds) 0 ≡ n
   step true e = h.1
@@ -195,3 +193,6 @@ first-letter c h = grind (arith, nat_tests)
 
 pub first-digit : (c : ℕ) → is_digit c ≡ true → cond (nat_eq 62 c) false true ≡ true
 first-digit c h = grind (arith, nat_tests)
+
+pub number-below : (n : ℕ) → nat_lt n (2 ^ 63) ≡ true → n < 2 ^ 64
+number-below n h = let small : n < 2 ^ 63 = grind (arith, nat_tests) in omega arith

@@ -1,3 +1,4 @@
+-- The canonical text of a syntax, in UTF-8.
 use Rattle.std.specs.Prelude.{ℕ, ◌==◌, Bool, true, false, if◌then◌else◌, List, [], ◌∷◌, ◌++◌, map, Option, Some, None, codes}
 use Rattle.std.specs.Fmt.{signed_decimal}
 use Rattle.std.specs.List.{flat_map}
@@ -28,9 +29,8 @@ use Rattle.hs_text.specs.declared.syntax.Body.{Body}
 use Rattle.hs_text.specs.declared.syntax.Body.TheVariants as body
 use Rattle.hs_text.specs.declared.syntax.Definition.{Definition}
 use Rattle.hs_text.specs.declared.syntax.Definition.TheVariants as definition
-use Rattle.hs_text.specs.Trees.{Tree, Leaf, Not, Minus, Binary, tree_of}
-
--- The canonical text of a syntax, in UTF-8. Texts that stand side by side here are written one after another.
+use Rattle.hs_expr.specs.Trees.{Tree, Leaf, Not, Minus, Binary}
+use Rattle.hs_expr.specs.NameExprs.{expr_tree}
 
 -- A character of a text as it is written: a double quote, a backslash, a line feed and a tab by an
 -- escape, and any other as it is.
@@ -65,7 +65,7 @@ sign_text sign.Minus = codes "-"
 sign_text sign.Times = codes "*"
 
 -- A piece by itself, with the spaces that it has: one on either side of a sign between two operands, one
--- behind `not`, none behind a minus sign of one operand.
+-- after `not`, none after a minus sign of one operand.
 abbrev pub piece_text : Piece → List ℕ
 piece_text (piece.Int value span) = signed_decimal value
 piece_text (piece.Text value span) = quoted_text value
@@ -90,12 +90,8 @@ tree_text (Not span a) = piece_text (piece.Not span) ++ operand a (tree_text a)
 tree_text (Minus span a) = piece_text (piece.Minus span) ++ operand a (tree_text a)
 tree_text (Binary sign span a b) = operand a (tree_text a) ++ piece_text (piece.Binary sign span) ++ operand b (tree_text b)
 
-abbrev pub grown_text : Option Tree → List ℕ
-grown_text None = []
-grown_text (Some a) = tree_text a
-
 abbrev pub expr_text : NameExpr → List ℕ
-expr_text expr = grown_text (tree_of expr.pieces)
+expr_text expr = tree_text (expr_tree expr)
 
 -- Texts with a comma and a space between each two.
 abbrev pub commas : List (List ℕ) → List ℕ

@@ -1,6 +1,9 @@
+-- The grammar, production by production: which tokens are the text of which syntax. `source` has the
+-- characters of the whole text, of which names and texts are parts.
 use Rattle.std.specs.Prelude.{ℕ, true, List, [], ◌∷◌, ◌++◌, Option}
 use Rattle.hs_expr.specs.declared.Piece.{Piece}
 use Rattle.hs_expr.specs.declared.Piece.TheVariants as piece
+use Rattle.hs_expr.specs.declared.NameExpr.{NameExpr}
 use Rattle.hs_tokens.specs.declared.token.Kind.TheVariants as kind
 use Rattle.hs_tokens.specs.declared.token.Token.{Token}
 use Rattle.hs_text.specs.declared.grammar.Term.TheVariants as term
@@ -21,11 +24,8 @@ use Rattle.hs_text.specs.declared.syntax.Body.TheVariants as body
 use Rattle.hs_text.specs.declared.syntax.Definition.{Definition}
 use Rattle.hs_text.specs.declared.syntax.Definition.TheVariants as definition
 use Rattle.hs_text.specs.Terms.{Is}
-use Rattle.hs_text.specs.Words.{name_of, direction_of, mark_of, sign_of, literal_of, atom_of, count_of, listed_of}
-use Rattle.hs_text.specs.Lists.{Many, Optional, Behind, Before, Separated}
-
--- The grammar, production by production: which tokens are the text of which syntax. `source` has the
--- characters of the whole text, of which names and texts are parts.
+use Rattle.hs_text.specs.Words.{name_of, direction_of, mark_of, sign_of, literal_of, atom_of, count_of, list_body}
+use Rattle.hs_text.specs.Lists.{Many, Optional, After, Before, Separated}
 
 -- The parts of expressions.
 pub data Level : Type 0 where
@@ -42,7 +42,7 @@ pub data Level : Type 0 where
   Product : Level
   Fact : Level
 
--- Expressions. Their parts stand in postfix order, each operator behind its operands, so that chains
+-- Expressions. Their parts are in postfix order, each operator after its operands, so that chains
 -- associate to the left: `a - b - c` is `a b - c -`.
 pub data Expression (source : List ℕ) : Level → List Token → List Piece → Type 0 where
   -- expr = conj { "or" conj }
@@ -101,13 +101,13 @@ pub data IsElement (source : List ℕ) : List Token → Element → Type 0 where
 
 -- simple = ("preserve" | "create" | "delete") elem ";" | "set" NAME "." WORD "=" expr ";" | "where" expr ";"
 pub data IsSimple (source : List ℕ) : List Token → Simple → Type 0 where
-  marked : (m s : Token) {ts : List Token} {e : Element} → Is term.Mark m → IsElement source ts e → Is (term.Just kind.Semicolon) s
+  mark_element : (m s : Token) {ts : List Token} {e : Element} → Is term.Mark m → IsElement source ts e → Is (term.Just kind.Semicolon) s
       → IsSimple source (m ∷ (ts ++ s ∷ [])) (simple.Marked (mark_of m.kind) e)
-  set : (k n d w a s : Token) {ts : List Token} {ps : List Piece} → Is (term.Just kind.Set) k → Is (term.Just kind.Name) n → Is (term.Just kind.Dot) d → Is term.Word w → Is (term.Just kind.Assign) a
-      → Expression source Expr ts ps → Is (term.Just kind.Semicolon) s
-      → IsSimple source (k ∷ n ∷ d ∷ w ∷ a ∷ (ts ++ s ∷ [])) (simple.Set (name_of source n) (name_of source w) (record { pieces = ps }))
-  test : (k s : Token) {ts : List Token} {ps : List Piece} → Is (term.Just kind.Where) k → Expression source Expr ts ps → Is (term.Just kind.Semicolon) s
-      → IsSimple source (k ∷ (ts ++ s ∷ [])) (simple.Where k.span (record { pieces = ps }))
+  set : (k n d w a s : Token) (e : NameExpr) {ts : List Token} → Is (term.Just kind.Set) k → Is (term.Just kind.Name) n → Is (term.Just kind.Dot) d → Is term.Word w → Is (term.Just kind.Assign) a
+      → Expression source Expr ts e.pieces → Is (term.Just kind.Semicolon) s
+      → IsSimple source (k ∷ n ∷ d ∷ w ∷ a ∷ (ts ++ s ∷ [])) (simple.Set (name_of source n) (name_of source w) e)
+  test : (k s : Token) (e : NameExpr) {ts : List Token} → Is (term.Just kind.Where) k → Expression source Expr ts e.pieces → Is (term.Just kind.Semicolon) s
+      → IsSimple source (k ∷ (ts ++ s ∷ [])) (simple.Where k.span e)
 
 -- { elem ";" }
 abbrev pub Elements : List ℕ → List Token → List Element → Type 0
@@ -115,7 +115,7 @@ Elements source = Many (Before (IsElement source) (term.Just kind.Semicolon))
 
 -- item = simple | ("forbid" | "require") "{" { elem ";" } "}" | "multi" "{" { simple } "}"
 pub data IsItem (source : List ℕ) : List Token → Item → Type 0 where
-  simply : {ts : List Token} {s : Simple} → IsSimple source ts s → IsItem source ts (item.Simple s)
+  simple_item : {ts : List Token} {s : Simple} → IsSimple source ts s → IsItem source ts (item.Simple s)
   forbid : (k o c : Token) {ts : List Token} {es : List Element} → Is (term.Just kind.Forbid) k → Is (term.Just kind.LeftBrace) o → Elements source ts es → Is (term.Just kind.RightBrace) c
       → IsItem source (k ∷ o ∷ (ts ++ c ∷ [])) (item.Forbid es)
   require : (k o c : Token) {ts : List Token} {es : List Element} → Is (term.Just kind.Require) k → Is (term.Just kind.LeftBrace) o → Elements source ts es → Is (term.Just kind.RightBrace) c
@@ -149,10 +149,10 @@ CallThen source = Before (IsCall source) (term.Just kind.Semicolon)
 --      | "loop" "{" call ";" "}" | "iterated" count "{" call ";" "}"
 -- count = INT | NAME
 pub data IsBody (source : List ℕ) : List Token → Body → Type 0 where
-  listed : (k o c : Token) {ts : List Token} {cs : List Call} → Is term.Order k → Is (term.Just kind.LeftBrace) o → Many (CallThen source) ts cs → Is (term.Just kind.RightBrace) c
-      → IsBody source (k ∷ o ∷ (ts ++ c ∷ [])) (listed_of k.kind cs)
+  call_list : (k o c : Token) {ts : List Token} {cs : List Call} → Is term.Order k → Is (term.Just kind.LeftBrace) o → Many (CallThen source) ts cs → Is (term.Just kind.RightBrace) c
+      → IsBody source (k ∷ o ∷ (ts ++ c ∷ [])) (list_body k.kind cs)
   conditional : (k o i h c : Token) {ts us vs : List Token} {a b : Call} {e : Option Call} → Is (term.Just kind.Conditional) k → Is (term.Just kind.LeftBrace) o
-      → Is (term.Just kind.If) i → CallThen source ts a → Is (term.Just kind.Then) h → CallThen source us b → Optional (Behind (term.Just kind.Else) (CallThen source)) vs e → Is (term.Just kind.RightBrace) c
+      → Is (term.Just kind.If) i → CallThen source ts a → Is (term.Just kind.Then) h → CallThen source us b → Optional (After (term.Just kind.Else) (CallThen source)) vs e → Is (term.Just kind.RightBrace) c
       → IsBody source (k ∷ o ∷ i ∷ (ts ++ (h ∷ (us ++ (vs ++ c ∷ []))))) (body.Conditional a b e)
   loop : (k o c : Token) {ts : List Token} {a : Call} → Is (term.Just kind.Loop) k → Is (term.Just kind.LeftBrace) o → CallThen source ts a → Is (term.Just kind.RightBrace) c
       → IsBody source (k ∷ o ∷ (ts ++ c ∷ [])) (body.Loop a)

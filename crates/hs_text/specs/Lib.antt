@@ -5,7 +5,6 @@ pub mod Grammar
 pub mod Building
 pub mod Machine
 pub mod Parsing
-pub mod Trees
 pub mod WellFormed
 pub mod Canonical
 pub mod Arranging

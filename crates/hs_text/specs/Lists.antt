@@ -1,9 +1,8 @@
+-- How the grammar repeats and joins. A relation says of which tokens something is the syntax.
 use Rattle.std.specs.Prelude.{List, [], ◌∷◌, ◌++◌, Option, Some, None}
 use Rattle.hs_tokens.specs.declared.token.Token.{Token}
 use Rattle.hs_text.specs.declared.grammar.Term.{Term}
 use Rattle.hs_text.specs.Terms.{Is}
-
--- How the grammar repeats and joins. A relation says of which tokens something is the syntax.
 
 -- `{ x }`: any number, one after another.
 pub data Many {X : Type 0} (P : List Token → X → Type 0) : List Token → List X → Type 0 where
@@ -16,8 +15,8 @@ pub data Optional {X : Type 0} (P : List Token → X → Type 0) : List Token �
   present : {ts : List Token} {x : X} → P ts x → Optional P ts (Some x)
 
 -- `t x`: a token, and then one.
-pub data Behind {X : Type 0} (term : Term) (P : List Token → X → Type 0) : List Token → X → Type 0 where
-  behind : (t : Token) {ts : List Token} {x : X} → Is term t → P ts x → Behind term P (t ∷ ts) x
+pub data After {X : Type 0} (term : Term) (P : List Token → X → Type 0) : List Token → X → Type 0 where
+  after_token : (t : Token) {ts : List Token} {x : X} → Is term t → P ts x → After term P (t ∷ ts) x
 
 -- `x t`: one, and then a token.
 pub data Before {X : Type 0} (P : List Token → X → Type 0) (term : Term) : List Token → X → Type 0 where
@@ -26,4 +25,4 @@ pub data Before {X : Type 0} (P : List Token → X → Type 0) (term : Term) : L
 -- `[ x { t x } ]`: any number, with a token between each two.
 pub data Separated {X : Type 0} (P : List Token → X → Type 0) (term : Term) : List Token → List X → Type 0 where
   no_items : Separated P term [] []
-  items : {ts us : List Token} {x : X} {xs : List X} → P ts x → Many (Behind term P) us xs → Separated P term (ts ++ us) (x ∷ xs)
+  items : {ts us : List Token} {x : X} {xs : List X} → P ts x → Many (After term P) us xs → Separated P term (ts ++ us) (x ∷ xs)

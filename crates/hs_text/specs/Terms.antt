@@ -1,3 +1,4 @@
+-- Which tokens may be where the grammar has a term.
 use Rattle.std.specs.Prelude.{◌≡◌, Bool, true, false}
 use Rattle.hs_tokens.specs.declared.token.Kind.{Kind}
 use Rattle.hs_tokens.specs.declared.token.Kind.TheVariants as kind

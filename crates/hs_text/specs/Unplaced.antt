@@ -1,9 +1,14 @@
-use Rattle.std.specs.Prelude.{List, map, Option, Some, None}
+-- Syntax without its spans: each is replaced by one that is nowhere. Two that are the same then are the
+-- same but for spans.
+use Rattle.std.specs.Prelude.{◌≡◌, List, map, Option, Some, None, refl}
+use Rattle.std.proofs.Common.{◌∙◌}
 use Rattle.hs_expr.specs.declared.Span.{Span}
 use Rattle.hs_expr.specs.declared.Name.{Name}
 use Rattle.hs_expr.specs.declared.NameExpr.{NameExpr}
 use Rattle.hs_expr.specs.declared.Piece.{Piece}
 use Rattle.hs_expr.specs.declared.Piece.TheVariants as piece
+use Rattle.hs_expr.specs.Trees.{operands}
+use Rattle.hs_expr.proofs.OneTree.{one-map}
 use Rattle.hs_text.specs.declared.syntax.Param.{Param}
 use Rattle.hs_text.specs.declared.syntax.Element.{Element}
 use Rattle.hs_text.specs.declared.syntax.Element.TheVariants as element
@@ -23,9 +28,6 @@ use Rattle.hs_text.specs.declared.syntax.Body.TheVariants as body
 use Rattle.hs_text.specs.declared.syntax.Definition.{Definition}
 use Rattle.hs_text.specs.declared.syntax.Definition.TheVariants as definition
 
--- Syntax without its places: each span is replaced by one that is nowhere. Two that are the same then
--- are the same but for spans.
-
 abbrev pub nowhere : Span
 nowhere = record { start = 0; end = 0; line = 0; column = 0 }
 
@@ -42,8 +44,19 @@ unplaced_piece (piece.Not span) = piece.Not nowhere
 unplaced_piece (piece.Minus span) = piece.Minus nowhere
 unplaced_piece (piece.Binary sign span) = piece.Binary sign nowhere
 
+-- It takes as many operands.
+pub unplaced_operands : (p : Piece) → operands (unplaced_piece p) ≡ operands p
+unplaced_operands (piece.Int value span) = refl
+unplaced_operands (piece.Text value span) = refl
+unplaced_operands (piece.Bool value span) = refl
+unplaced_operands (piece.Name name) = refl
+unplaced_operands (piece.Slot node attribute) = refl
+unplaced_operands (piece.Not span) = refl
+unplaced_operands (piece.Minus span) = refl
+unplaced_operands (piece.Binary sign span) = refl
+
 abbrev pub unplaced_expr : NameExpr → NameExpr
-unplaced_expr expr = record { pieces = map unplaced_piece expr.pieces }
+unplaced_expr expr = record { pieces = map unplaced_piece expr.pieces; one = one-map unplaced_piece unplaced_operands expr.pieces ∙ expr.one }
 
 abbrev pub unplaced_param : Param → Param
 unplaced_param param = record { direction = param.direction; name = unplaced_name param.name; kind = unplaced_name param.kind }

@@ -1,3 +1,5 @@
+-- What the parts of a syntax are: such as the grammar can have at their places, and in the order of a
+-- text.
 use Rattle.std.specs.Prelude.{ℕ, ℤ, pos, negsuc, ◌≡◌, ◌≤◌, ◌^◌, ◌==◌, ◌||◌, ⊤, nat_le, nat_lt, Bool, true, false, List, [], ◌∷◌, ◌++◌, Option, Some, None, is_some}
 use Rattle.std.proofs.Math.Bool.{Bool-set}
 use Rattle.std.specs.Coded.{×_prop, Unit-prop, le_prop}
@@ -8,7 +10,7 @@ use Rattle.hs_expr.specs.declared.Name.{Name}
 use Rattle.hs_expr.specs.declared.NameExpr.{NameExpr}
 use Rattle.hs_expr.specs.declared.Piece.{Piece}
 use Rattle.hs_expr.specs.declared.Piece.TheVariants as piece
-use Rattle.hs_tokens.specs.Tokens.{is_word, kind_in, reserved}
+use Rattle.hs_tokens.specs.Tokens.{is_word, lookup, reserved_words}
 use Rattle.hs_text.specs.declared.syntax.Param.{Param}
 use Rattle.hs_text.specs.declared.syntax.Element.{Element}
 use Rattle.hs_text.specs.declared.syntax.Element.TheVariants as element
@@ -27,10 +29,8 @@ use Rattle.hs_text.specs.declared.syntax.Body.{Body}
 use Rattle.hs_text.specs.declared.syntax.Body.TheVariants as body
 use Rattle.hs_text.specs.declared.syntax.Definition.{Definition}
 use Rattle.hs_text.specs.declared.syntax.Definition.TheVariants as definition
-use Rattle.hs_text.specs.Trees.{Tree, Leaf, Not, Minus, Binary, tree_of}
-
--- What the parts of a syntax are: such as the grammar can have at their places, and in the order of a
--- text.
+use Rattle.hs_expr.specs.Trees.{Tree, Leaf, Not, Minus, Binary}
+use Rattle.hs_expr.specs.NameExprs.{expr_tree}
 
 -- A word, which may be reserved.
 abbrev pub IsWord : Name → Type 0
@@ -38,7 +38,7 @@ IsWord name = is_word name.text ≡ true
 
 -- A word that is not reserved.
 abbrev pub IsName : Name → Type 0
-IsName name = (is_word name.text ≡ true) × (is_some (kind_in reserved name.text) ≡ false)
+IsName name = (is_word name.text ≡ true) × (is_some (lookup reserved_words name.text) ≡ false)
 
 -- An integer that can be written: 0 to 9,223,372,036,854,775,807.
 abbrev pub is_literal : ℤ → Bool
@@ -64,10 +64,8 @@ IsPieceFine (piece.Not span) = ⊤
 IsPieceFine (piece.Minus span) = ⊤
 IsPieceFine (piece.Binary sign span) = ⊤
 
--- The pieces are those of one expression: each operator finds its operands before it, and one
--- expression is left.
 abbrev pub IsExprFine : NameExpr → Type 0
-IsExprFine expr = (is_some (tree_of expr.pieces) ≡ true) × AllByRecursion IsPieceFine expr.pieces
+IsExprFine expr = AllByRecursion IsPieceFine expr.pieces
 
 -- The kind of a parameter, as the class of a node, may be spelled as a reserved word.
 abbrev pub IsParamFine : Param → Type 0
@@ -77,20 +75,20 @@ abbrev pub IsElementFine : Element → Type 0
 IsElementFine (element.Node name class) = IsName name × IsWord class
 IsElementFine (element.Edge source target reference) = IsName source × IsName target × IsWord reference
 
--- A simple item: its names are names, and its expression is one.
+-- A simple item, with its names and the pieces of its expression.
 abbrev pub IsSimpleFine : Simple → Type 0
 IsSimpleFine (simple.Marked mark element) = IsElementFine element
 IsSimpleFine (simple.Set node attribute value) = IsName node × IsWord attribute × IsExprFine value
 IsSimpleFine (simple.Where word test) = IsExprFine test
 
--- An item, with all that stands in it.
+-- An item, with all its parts.
 abbrev pub IsItemFine : Item → Type 0
 IsItemFine (item.Simple simple) = IsSimpleFine simple
 IsItemFine (item.Forbid elements) = AllByRecursion IsElementFine elements
 IsItemFine (item.Require elements) = AllByRecursion IsElementFine elements
 IsItemFine (item.Multi simples) = AllByRecursion IsSimpleFine simples
 
--- A value in a call; its minus sign stands apart from its number.
+-- A value in a call; its minus sign is apart from its number.
 abbrev pub IsAtomFine : Atom → Type 0
 IsAtomFine (atom.Int minus value span) = is_literal value ≡ true
 IsAtomFine (atom.Text value span) = IsAllowed value
@@ -144,12 +142,8 @@ tree_spans (Not span a) = span ∷ tree_spans a
 tree_spans (Minus span a) = span ∷ tree_spans a
 tree_spans (Binary sign span a b) = tree_spans a ++ span ∷ tree_spans b
 
-abbrev pub grown_spans : Option Tree → List Span
-grown_spans None = []
-grown_spans (Some a) = tree_spans a
-
 abbrev pub expr_spans : NameExpr → List Span
-expr_spans expr = grown_spans (tree_of expr.pieces)
+expr_spans expr = tree_spans (expr_tree expr)
 
 abbrev pub param_spans : Param → List Span
 param_spans param = param.name.span ∷ param.kind.span ∷ []
@@ -229,7 +223,7 @@ piece-prop (piece.Minus span) = hlevel Bool-set
 piece-prop (piece.Binary sign span) = hlevel Bool-set
 
 expr-prop : (e : NameExpr) → IsProp (IsExprFine e)
-expr-prop e = ×_prop (hlevel Bool-set) (AllByRecursion-prop IsPieceFine piece-prop e.pieces)
+expr-prop e = AllByRecursion-prop IsPieceFine piece-prop e.pieces
 
 element-prop : (e : Element) → IsProp (IsElementFine e)
 element-prop (element.Node name class) = hlevel Bool-set

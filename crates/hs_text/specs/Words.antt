@@ -1,3 +1,4 @@
+-- What the tokens of a text mean. A text is its characters; syntax has texts in UTF-8.
 use Rattle.std.specs.Prelude.{ℕ, ◌-◌, ◌==◌, Bool, true, false, if◌then◌else◌, List, [], ◌∷◌, drop, take, encode_utf8_all}
 use Rattle.hs_expr.specs.declared.Span.{Span}
 use Rattle.hs_expr.specs.declared.Name.{Name}
@@ -20,33 +21,31 @@ use Rattle.hs_text.specs.declared.syntax.Call.{Call}
 use Rattle.hs_text.specs.declared.syntax.Body.{Body}
 use Rattle.hs_text.specs.declared.syntax.Body.TheVariants as body
 
--- What the tokens of a text stand for. A text is its characters; syntax has texts in UTF-8.
-
 -- The characters of a span.
 abbrev pub slice : List ℕ → Span → List ℕ
 slice source span = take (span.end - span.start) (drop span.start source)
 
--- A word is a name with its place.
+-- A word as a name with its span.
 abbrev pub name_of : List ℕ → Token → Name
 name_of source t = record { text = encode_utf8_all (slice source t.span); span = t.span }
 
--- What stands behind a backslash: `n` for a line feed, `t` for a tab, and else the character itself.
-abbrev pub escaped : ℕ → ℕ
-escaped c = if c == 110 then 10 else if c == 116 then 9 else c
+-- What an escape means, by the character after its backslash: `n` for a line feed, `t` for a tab, and else the character itself.
+abbrev pub escape_value : ℕ → ℕ
+escape_value c = if c == 110 then 10 else if c == 116 then 9 else c
 
--- The characters that a text means, from behind its first quote on. The first argument says whether a
--- backslash stands before them.
+-- The characters that a text means, from after its first quote on. The first argument says whether a
+-- backslash is before them.
 abbrev pub content : Bool → List ℕ → List ℕ
 content after_backslash [] = []
-content true (c ∷ cs) = escaped c ∷ content false cs
+content true (c ∷ cs) = escape_value c ∷ content false cs
 content false (c ∷ cs) =
     if c == 34 then []
     else if c == 92 then content true cs
     else c ∷ content false cs
 
 -- The text that a token in quotes means.
-abbrev pub text_of : List ℕ → Token → List ℕ
-text_of source t = encode_utf8_all (content false (drop 1 (slice source t.span)))
+abbrev pub text_in : List ℕ → Token → List ℕ
+text_in source t = encode_utf8_all (content false (drop 1 (slice source t.span)))
 
 abbrev pub direction_of : Kind → Direction
 direction_of kind.Out = direction.Out
@@ -77,7 +76,7 @@ is_true _ = false
 -- The part of an expression that a literal is.
 abbrev pub literal_by : Kind → List ℕ → Token → Piece
 literal_by kind.Int source t = piece.Int t.number t.span
-literal_by kind.Text source t = piece.Text (text_of source t) t.span
+literal_by kind.Text source t = piece.Text (text_in source t) t.span
 literal_by k source t = piece.Bool (is_true k) t.span
 
 abbrev pub literal_of : List ℕ → Token → Piece
@@ -86,7 +85,7 @@ literal_of source t = literal_by t.kind source t
 -- The value that a token is in a call.
 abbrev pub atom_by : Kind → List ℕ → Token → Atom
 atom_by kind.Int source t = atom.Int false t.number t.span
-atom_by kind.Text source t = atom.Text (text_of source t) t.span
+atom_by kind.Text source t = atom.Text (text_in source t) t.span
 atom_by kind.Name source t = atom.Name (name_of source t)
 atom_by k source t = atom.Bool (is_true k) t.span
 
@@ -101,7 +100,7 @@ abbrev pub count_of : List ℕ → Token → Count
 count_of source t = count_by t.kind source t
 
 -- The body that has its calls in a list.
-abbrev pub listed_of : Kind → List Call → Body
-listed_of kind.Independent calls = body.Independent calls
-listed_of kind.Priority calls = body.Priority calls
-listed_of _ calls = body.Sequential calls
+abbrev pub list_body : Kind → List Call → Body
+list_body kind.Independent calls = body.Independent calls
+list_body kind.Priority calls = body.Priority calls
+list_body _ calls = body.Sequential calls

@@ -1,11 +1,11 @@
 //! The text of an expression, in one pass over its pieces from the last to the first: so neither the
 //! machine's stack nor the time grows with its depth.
 
-ghost use Rattle.std.specs.Prelude.{◌≡◌, ◌++◌, IfOk, OnOk, true, string_bytes, is_some};
+ghost use Rattle.std.specs.Prelude.{◌≡◌, ◌++◌, IfOk, OnOk, string_bytes};
 ghost use Rattle.std.specs.List.{concat};
-ghost use Rattle.hs_text.specs.Trees.{tree_of};
-ghost use Rattle.hs_text.specs.Canonical.{piece_text, grown_text, expr_text};
-ghost use Rattle.hs_text.specs.Arranging.{next_expr, below_expr, before_expr, opened, closed, tasks_after, texts_after};
+ghost use Rattle.hs_text.specs.Canonical as spec;
+ghost use Rattle.hs_text.specs.Canonical.{expr_text};
+ghost use Rattle.hs_text.specs.Arranging.{next_expr, below_expr, before_expr, paren_tasks, paren_texts, tasks_after, texts_after};
 
 use crate::spelling::{quoted, sign_word, truth_word};
 use hs_expr::{Name, NameExpr, Piece, Stack, Text};
@@ -21,7 +21,7 @@ pub enum Task {
 }
 
 fn slot(alloc: Global, node: &Name, attribute: &Name) -> Result<Text, AllocError>
-    ensures { IfOk result (λ text. text ≡ piece_text (Piece.Slot node.now attribute.now)) }
+    ensures { IfOk result (λ text. text ≡ spec.piece_text (Piece.Slot node.now attribute.now)) }
 {
     let mut text = String::from_str(alloc, node.text.as_str())?;
     text.push_str(".")?;
@@ -30,8 +30,8 @@ fn slot(alloc: Global, node: &Name, attribute: &Name) -> Result<Text, AllocError
 }
 
 // The text of a piece by itself.
-fn spelled(alloc: Global, piece: &Piece) -> Result<Text, AllocError>
-    ensures { IfOk result (λ text. text ≡ piece_text piece.now) }
+fn piece_text(alloc: Global, piece: &Piece) -> Result<Text, AllocError>
+    ensures { IfOk result (λ text. text ≡ spec.piece_text piece.now) }
 {
     match piece {
         Piece::Int { value, .. } => Ok(Text::from_string(format!(in alloc; "{value}")?)),
@@ -48,8 +48,8 @@ fn spelled(alloc: Global, piece: &Piece) -> Result<Text, AllocError>
     }
 }
 
-// Takes the next expression that is to be written, and whether it needs parentheses; the texts behind it
-// are written then.
+// Takes the next expression that is to be written, and whether it needs parentheses; the texts after
+// it are written then.
 fn next(tasks: &mut Stack<Task>, texts: &mut Stack<Text>) -> Result<Option<bool>, AllocError>
     ensures next { IfOk result (λ r. r ≡ next_expr tasks.old) }
     ensures below { OnOk result (tasks.new ≡ below_expr tasks.old) }
@@ -65,7 +65,7 @@ fn next(tasks: &mut Stack<Task>, texts: &mut Stack<Text>) -> Result<Option<bool>
 }
 
 fn open(alloc: Global, parens: bool, tasks: &mut Stack<Task>) -> Result<(), AllocError>
-    ensures { OnOk result (tasks.new ≡ opened parens tasks.old) }
+    ensures { OnOk result (tasks.new ≡ paren_tasks parens tasks.old) }
 {
     if parens {
         tasks.push(Task::Text(Text::from_str(alloc, "(")?))?;
@@ -74,7 +74,7 @@ fn open(alloc: Global, parens: bool, tasks: &mut Stack<Task>) -> Result<(), Allo
 }
 
 fn close(alloc: Global, parens: bool, texts: &mut Stack<Text>) -> Result<(), AllocError>
-    ensures { OnOk result (texts.new ≡ closed parens texts.old) }
+    ensures { OnOk result (texts.new ≡ paren_texts parens texts.old) }
 {
     if parens {
         texts.push(Text::from_str(alloc, ")")?)?;
@@ -101,7 +101,7 @@ fn put_tasks(
         }
         _ => return Ok(()),
     }
-    tasks.push(Task::Text(spelled(alloc, piece)?))?;
+    tasks.push(Task::Text(piece_text(alloc, piece)?))?;
     tasks.push(Task::Expr(true))
 }
 
@@ -117,15 +117,15 @@ fn put_text(
         Piece::Not { .. } | Piece::Minus { .. } | Piece::Binary { .. } => {
             close(alloc, parens, texts)
         }
-        _ => texts.push(spelled(alloc, piece)?),
+        _ => texts.push(piece_text(alloc, piece)?),
     }
 }
 
-// The texts that an expression is written with, the first one on top.
-fn arranged(alloc: Global, pieces: &[Piece]) -> Result<Stack<Text>, AllocError>
-    requires { is_some (tree_of pieces.now) ≡ true }
-    ensures { IfOk result (λ texts. concat texts ≡ grown_text (tree_of pieces.now)) }
+// The texts with which an expression is written, the first one on top.
+fn texts_of(alloc: Global, expr: &NameExpr) -> Result<Stack<Text>, AllocError>
+    ensures { IfOk result (λ texts. concat texts ≡ expr_text expr.now) }
 {
+    let pieces = expr.pieces.as_slice();
     let mut tasks = Stack::new(alloc);
     let mut texts = Stack::new(alloc);
     tasks.push(Task::Expr(false))?;
@@ -151,9 +151,8 @@ fn write_texts(out: &mut String, texts: &mut Stack<Text>) -> Result<(), AllocErr
 
 /// Writes an expression.
 pub fn write_expr(alloc: Global, out: &mut String, expr: &NameExpr) -> Result<(), AllocError>
-    requires { is_some (tree_of expr.now.pieces) ≡ true }
     ensures { OnOk result (string_bytes out.new ≡ string_bytes out.old ++ expr_text expr.now) }
 {
-    let mut texts = arranged(alloc, expr.pieces.as_slice())?;
+    let mut texts = texts_of(alloc, expr)?;
     write_texts(out, &mut texts)
 }

@@ -27,7 +27,8 @@ pub struct Builder {
 }
 
 impl Builder {
-    ghost use Rattle.hs_text.specs.Building.{top, below, first, second, third, below_one, below_two, below_three, held_then, built, finished, with_piece, given, no_builder};
+    ghost use Rattle.hs_expr.specs.NameExprs.{name_expr};
+    ghost use Rattle.hs_text.specs.Building.{top, below, last_token, last_but_one, last_but_two, below_one, below_two, below_three, with_token, builder_after, with_unit, with_piece, with_value, no_builder};
 
     /// Nothing is made yet.
     pub fn new(alloc: Global) -> Builder
@@ -48,7 +49,7 @@ impl Builder {
 
     /// Holds a token.
     pub fn hold(&mut self, token: Token) -> Result<(), AllocError>
-        ensures { OnOk result (self.new ≡ held_then token self.old) }
+        ensures { OnOk result (self.new ≡ with_token token self.old) }
     {
         self.held.push(token)?;
         Ok(())
@@ -56,7 +57,7 @@ impl Builder {
 
     // Takes the last token that is held.
     fn last(&mut self) -> Token
-        ensures token { result ≡ first self.old }
+        ensures token { result ≡ last_token self.old }
         ensures rest { self.new ≡ record self.old { held = below_one self.old } }
     {
         self.held.pop().unwrap_or(Token::NONE)
@@ -64,7 +65,7 @@ impl Builder {
 
     /// Makes what the action says.
     pub fn act(&mut self, alloc: Global, source: &[char], action: Action) -> Result<(), AllocError>
-        ensures { OnOk result (self.new ≡ built source.now action self.old) }
+        ensures { OnOk result (self.new ≡ builder_after source.now action self.old) }
     {
         match action {
             Action::Rule => self.end_rule(alloc, source),
@@ -97,7 +98,7 @@ impl Builder {
     }
 
     fn end_rule(&mut self, alloc: Global, source: &[char]) -> Result<(), AllocError>
-        ensures { OnOk result (self.new ≡ built source.now action.Rule self.old) }
+        ensures { OnOk result (self.new ≡ builder_after source.now action.Rule self.old) }
     {
         let name = words::name(alloc, source, self.last())?;
         let params = mem::replace(&mut self.params, List::new(alloc));
@@ -110,7 +111,7 @@ impl Builder {
     }
 
     fn param(&mut self, alloc: Global, source: &[char]) -> Result<(), AllocError>
-        ensures { OnOk result (self.new ≡ built source.now action.Param self.old) }
+        ensures { OnOk result (self.new ≡ builder_after source.now action.Param self.old) }
     {
         let kind = words::name(alloc, source, self.last())?;
         let name = words::name(alloc, source, self.last())?;
@@ -123,7 +124,7 @@ impl Builder {
     }
 
     fn plain(&mut self) -> Result<(), AllocError>
-        ensures { OnOk result (self.new ≡ built [] action.Plain self.old) }
+        ensures { OnOk result (self.new ≡ builder_after [] action.Plain self.old) }
     {
         match self.simples.pop() {
             Some(simple) => self.items.push(Item::Simple(simple)),
@@ -132,28 +133,28 @@ impl Builder {
     }
 
     fn forbid(&mut self, alloc: Global) -> Result<(), AllocError>
-        ensures { OnOk result (self.new ≡ built [] action.Forbid self.old) }
+        ensures { OnOk result (self.new ≡ builder_after [] action.Forbid self.old) }
     {
         let elements = self.elements.take(alloc);
         self.items.push(Item::Forbid(elements))
     }
 
     fn require(&mut self, alloc: Global) -> Result<(), AllocError>
-        ensures { OnOk result (self.new ≡ built [] action.Require self.old) }
+        ensures { OnOk result (self.new ≡ builder_after [] action.Require self.old) }
     {
         let elements = self.elements.take(alloc);
         self.items.push(Item::Require(elements))
     }
 
     fn multi(&mut self, alloc: Global) -> Result<(), AllocError>
-        ensures { OnOk result (self.new ≡ built [] action.Multi self.old) }
+        ensures { OnOk result (self.new ≡ builder_after [] action.Multi self.old) }
     {
         let simples = self.simples.take(alloc);
         self.items.push(Item::Multi(simples))
     }
 
     fn marked(&mut self) -> Result<(), AllocError>
-        ensures { OnOk result (self.new ≡ built [] action.Marked self.old) }
+        ensures { OnOk result (self.new ≡ builder_after [] action.Marked self.old) }
     {
         let mark = words::mark(self.last().kind);
         match self.elements.pop() {
@@ -162,39 +163,41 @@ impl Builder {
         }
     }
 
-    // The expression of the pieces so far.
-    fn expr(&mut self, alloc: Global) -> NameExpr
-        ensures expr { result ≡ record { pieces = self.old.pieces } }
+    // The expression that the pieces are, if they are one.
+    fn expr(&mut self, alloc: Global) -> Option<NameExpr>
+        ensures expr { result ≡ name_expr self.old.pieces }
         ensures rest { self.new ≡ record self.old { pieces = [] } }
     {
-        NameExpr {
-            pieces: mem::replace(&mut self.pieces, List::new(alloc)),
-        }
+        NameExpr::new(mem::replace(&mut self.pieces, List::new(alloc)))
     }
 
     fn set(&mut self, alloc: Global, source: &[char]) -> Result<(), AllocError>
-        ensures { OnOk result (self.new ≡ built source.now action.Set self.old) }
+        ensures { OnOk result (self.new ≡ builder_after source.now action.Set self.old) }
     {
         let attribute = words::name(alloc, source, self.last())?;
         let node = words::name(alloc, source, self.last())?;
-        let value = self.expr(alloc);
-        self.simples.push(Simple::Set {
-            node,
-            attribute,
-            value,
-        })
+        match self.expr(alloc) {
+            Some(value) => self.simples.push(Simple::Set {
+                node,
+                attribute,
+                value,
+            }),
+            None => Ok(()),
+        }
     }
 
     fn condition(&mut self, alloc: Global) -> Result<(), AllocError>
-        ensures { OnOk result (self.new ≡ built [] action.Where self.old) }
+        ensures { OnOk result (self.new ≡ builder_after [] action.Where self.old) }
     {
         let word = self.last().span;
-        let test = self.expr(alloc);
-        self.simples.push(Simple::Where { word, test })
+        match self.expr(alloc) {
+            Some(test) => self.simples.push(Simple::Where { word, test }),
+            None => Ok(()),
+        }
     }
 
     fn node(&mut self, alloc: Global, source: &[char]) -> Result<(), AllocError>
-        ensures { OnOk result (self.new ≡ built source.now action.Node self.old) }
+        ensures { OnOk result (self.new ≡ builder_after source.now action.Node self.old) }
     {
         let class = words::name(alloc, source, self.last())?;
         let name = words::name(alloc, source, self.last())?;
@@ -202,7 +205,7 @@ impl Builder {
     }
 
     fn edge(&mut self, alloc: Global, from: &[char]) -> Result<(), AllocError>
-        ensures { OnOk result (self.new ≡ built from.now action.Edge self.old) }
+        ensures { OnOk result (self.new ≡ builder_after from.now action.Edge self.old) }
     {
         let reference = words::name(alloc, from, self.last())?;
         let target = words::name(alloc, from, self.last())?;
@@ -215,7 +218,7 @@ impl Builder {
     }
 
     fn binary(&mut self) -> Result<(), AllocError>
-        ensures { OnOk result (self.new ≡ built [] action.Binary self.old) }
+        ensures { OnOk result (self.new ≡ builder_after [] action.Binary self.old) }
     {
         let token = self.last();
         self.pieces.push(Piece::Binary {
@@ -225,35 +228,35 @@ impl Builder {
     }
 
     fn not(&mut self) -> Result<(), AllocError>
-        ensures { OnOk result (self.new ≡ built [] action.Not self.old) }
+        ensures { OnOk result (self.new ≡ builder_after [] action.Not self.old) }
     {
         let span = self.last().span;
         self.pieces.push(Piece::Not { span })
     }
 
     fn minus(&mut self) -> Result<(), AllocError>
-        ensures { OnOk result (self.new ≡ built [] action.Minus self.old) }
+        ensures { OnOk result (self.new ≡ builder_after [] action.Minus self.old) }
     {
         let span = self.last().span;
         self.pieces.push(Piece::Minus { span })
     }
 
     fn literal(&mut self, alloc: Global, source: &[char]) -> Result<(), AllocError>
-        ensures { OnOk result (self.new ≡ built source.now action.Literal self.old) }
+        ensures { OnOk result (self.new ≡ builder_after source.now action.Literal self.old) }
     {
         let piece = words::literal(alloc, source, self.last())?;
         self.pieces.push(piece)
     }
 
     fn name(&mut self, alloc: Global, source: &[char]) -> Result<(), AllocError>
-        ensures { OnOk result (self.new ≡ built source.now action.Name self.old) }
+        ensures { OnOk result (self.new ≡ builder_after source.now action.Name self.old) }
     {
         let name = words::name(alloc, source, self.last())?;
         self.pieces.push(Piece::Name(name))
     }
 
     fn slot(&mut self, alloc: Global, source: &[char]) -> Result<(), AllocError>
-        ensures { OnOk result (self.new ≡ built source.now action.Slot self.old) }
+        ensures { OnOk result (self.new ≡ builder_after source.now action.Slot self.old) }
     {
         let attribute = words::name(alloc, source, self.last())?;
         let node = words::name(alloc, source, self.last())?;
@@ -262,7 +265,7 @@ impl Builder {
 
     // Ends a unit, whose name is held.
     fn finish(&mut self, alloc: Global, source: &[char], body: Body) -> Result<(), AllocError>
-        ensures { OnOk result (self.new ≡ finished source.now self.old body) }
+        ensures { OnOk result (self.new ≡ with_unit source.now self.old body) }
     {
         let name = words::name(alloc, source, self.last())?;
         let params = mem::replace(&mut self.params, List::new(alloc));
@@ -271,7 +274,7 @@ impl Builder {
     }
 
     fn listed(&mut self, alloc: Global, source: &[char]) -> Result<(), AllocError>
-        ensures { OnOk result (self.new ≡ built source.now action.Listed self.old) }
+        ensures { OnOk result (self.new ≡ builder_after source.now action.Listed self.old) }
     {
         let kind = self.last().kind;
         let calls = self.calls.take(alloc);
@@ -279,7 +282,7 @@ impl Builder {
     }
 
     fn conditional(&mut self, alloc: Global, source: &[char]) -> Result<(), AllocError>
-        ensures { OnOk result (self.new ≡ built source.now action.If self.old) }
+        ensures { OnOk result (self.new ≡ builder_after source.now action.If self.old) }
     {
         let Some(then) = self.calls.pop() else {
             return Ok(());
@@ -296,7 +299,7 @@ impl Builder {
     }
 
     fn alternative(&mut self, alloc: Global, source: &[char]) -> Result<(), AllocError>
-        ensures { OnOk result (self.new ≡ built source.now action.IfElse self.old) }
+        ensures { OnOk result (self.new ≡ builder_after source.now action.IfElse self.old) }
     {
         let Some(otherwise) = self.calls.pop() else {
             return Ok(());
@@ -316,7 +319,7 @@ impl Builder {
     }
 
     fn repeated(&mut self, alloc: Global, source: &[char]) -> Result<(), AllocError>
-        ensures { OnOk result (self.new ≡ built source.now action.Loop self.old) }
+        ensures { OnOk result (self.new ≡ builder_after source.now action.Loop self.old) }
     {
         let Some(call) = self.calls.pop() else {
             return Ok(());
@@ -325,7 +328,7 @@ impl Builder {
     }
 
     fn iterated(&mut self, alloc: Global, source: &[char]) -> Result<(), AllocError>
-        ensures { OnOk result (self.new ≡ built source.now action.Iterated self.old) }
+        ensures { OnOk result (self.new ≡ builder_after source.now action.Iterated self.old) }
     {
         let Some(call) = self.calls.pop() else {
             return Ok(());
@@ -335,7 +338,7 @@ impl Builder {
     }
 
     fn call(&mut self, alloc: Global, source: &[char]) -> Result<(), AllocError>
-        ensures { OnOk result (self.new ≡ built source.now action.Call self.old) }
+        ensures { OnOk result (self.new ≡ builder_after source.now action.Call self.old) }
     {
         let callee = words::name(alloc, source, self.last())?;
         let binds = mem::replace(&mut self.binds, List::new(alloc));
@@ -343,7 +346,7 @@ impl Builder {
     }
 
     fn variable(&mut self, alloc: Global, source: &[char]) -> Result<(), AllocError>
-        ensures { OnOk result (self.new ≡ built source.now action.Variable self.old) }
+        ensures { OnOk result (self.new ≡ builder_after source.now action.Variable self.old) }
     {
         let variable = words::name(alloc, source, self.last())?;
         let parameter = words::name(alloc, source, self.last())?;
@@ -355,21 +358,21 @@ impl Builder {
 
     // Gives a value to the parameter whose name is held.
     fn give(&mut self, alloc: Global, source: &[char], value: Atom) -> Result<(), AllocError>
-        ensures { OnOk result (self.new ≡ given source.now self.old (first self.old) (below_one self.old) value) }
+        ensures { OnOk result (self.new ≡ with_value source.now self.old (last_token self.old) (below_one self.old) value) }
     {
         let parameter = words::name(alloc, source, self.last())?;
         self.binds.push(Bind::Give { parameter, value })
     }
 
     fn atom(&mut self, alloc: Global, source: &[char]) -> Result<(), AllocError>
-        ensures { OnOk result (self.new ≡ built source.now action.Atom self.old) }
+        ensures { OnOk result (self.new ≡ builder_after source.now action.Atom self.old) }
     {
         let value = words::atom(alloc, source, self.last())?;
         self.give(alloc, source, value)
     }
 
     fn minus_atom(&mut self, alloc: Global, source: &[char]) -> Result<(), AllocError>
-        ensures { OnOk result (self.new ≡ built source.now action.MinusAtom self.old) }
+        ensures { OnOk result (self.new ≡ builder_after source.now action.MinusAtom self.old) }
     {
         let token = self.last();
         let value = Atom::Int {

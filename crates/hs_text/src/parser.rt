@@ -3,18 +3,19 @@
 ghost use Rattle.std.specs.Prelude.{◌≡◌, IfOk, IfErr};
 ghost use Rattle.std.specs.Bool.{OnTrue, OnFalse};
 ghost use Rattle.hs_text.specs.declared.grammar.Term.TheVariants as term;
-ghost use Rattle.hs_text.specs.Building.{held_then};
+ghost use Rattle.hs_text.specs.Building.{with_token};
 ghost use Rattle.hs_text.specs.Terms.{matches};
 ghost use Rattle.hs_text.specs.Grammar.{IsText};
+ghost use Rattle.hs_expr.specs.Failures.{IfFault};
 ghost use Rattle.hs_text.specs.Parsing.{IsGrammarFault};
-ghost use Rattle.hs_text.specs.Machine.{Fine, Taken, Refused, IsEnd, IsCutOff};
+ghost use Rattle.hs_text.specs.Machine.{Fine, TakesToken, RefusesToken, IsEnd, IsCutOff};
 
 use crate::builder::Builder;
 use crate::expand::expand;
 use crate::grammar::{Part, Symbol, Term};
 use crate::syntax::Definition;
 use crate::table::{empty, production};
-use hs_expr::{List, Stack};
+use hs_expr::{Failure, List, Stack};
 use hs_tokens::{FaultKind, Kind, Scanned, TextFault, Token};
 use std::alloc::{AllocError, Global};
 use std::mem;
@@ -40,114 +41,95 @@ fn may_stand(term: Term, kind: Kind) -> bool
 fn is_word(kind: Kind) -> bool
     ensures { result ≡ matches term.Word kind }
 {
-    match kind {
+    matches!(
+        kind,
         Kind::Name
-        | Kind::Rule
-        | Kind::Unit
-        | Kind::In
-        | Kind::Out
-        | Kind::Preserve
-        | Kind::Create
-        | Kind::Delete
-        | Kind::Forbid
-        | Kind::Require
-        | Kind::Multi
-        | Kind::Node
-        | Kind::Edge
-        | Kind::Set
-        | Kind::Where
-        | Kind::Sequential
-        | Kind::Independent
-        | Kind::Priority
-        | Kind::Conditional
-        | Kind::If
-        | Kind::Then
-        | Kind::Else
-        | Kind::Loop
-        | Kind::Iterated
-        | Kind::And
-        | Kind::Or
-        | Kind::Not
-        | Kind::True
-        | Kind::False
-        | Kind::IntWord
-        | Kind::Bool
-        | Kind::TextWord => true,
-        _ => false,
-    }
+            | Kind::Rule
+            | Kind::Unit
+            | Kind::In
+            | Kind::Out
+            | Kind::Preserve
+            | Kind::Create
+            | Kind::Delete
+            | Kind::Forbid
+            | Kind::Require
+            | Kind::Multi
+            | Kind::Node
+            | Kind::Edge
+            | Kind::Set
+            | Kind::Where
+            | Kind::Sequential
+            | Kind::Independent
+            | Kind::Priority
+            | Kind::Conditional
+            | Kind::If
+            | Kind::Then
+            | Kind::Else
+            | Kind::Loop
+            | Kind::Iterated
+            | Kind::And
+            | Kind::Or
+            | Kind::Not
+            | Kind::True
+            | Kind::False
+            | Kind::IntWord
+            | Kind::Bool
+            | Kind::TextWord
+    )
 }
 
 fn is_direction(kind: Kind) -> bool
     ensures { result ≡ matches term.Direction kind }
 {
-    match kind {
-        Kind::In | Kind::Out => true,
-        _ => false,
-    }
+    matches!(kind, Kind::In | Kind::Out)
 }
 
 fn is_mark(kind: Kind) -> bool
     ensures { result ≡ matches term.Mark kind }
 {
-    match kind {
-        Kind::Preserve | Kind::Create | Kind::Delete => true,
-        _ => false,
-    }
+    matches!(kind, Kind::Preserve | Kind::Create | Kind::Delete)
 }
 
 fn is_comparison(kind: Kind) -> bool
     ensures { result ≡ matches term.Comparison kind }
 {
-    match kind {
-        Kind::Equal | Kind::NotEqual | Kind::Less | Kind::AtMost | Kind::Greater | Kind::AtLeast =>
-            true,
-        _ => false,
-    }
+    matches!(
+        kind,
+        Kind::Equal | Kind::NotEqual | Kind::Less | Kind::AtMost | Kind::Greater | Kind::AtLeast
+    )
 }
 
 fn is_addition(kind: Kind) -> bool
     ensures { result ≡ matches term.Addition kind }
 {
-    match kind {
-        Kind::Plus | Kind::Minus => true,
-        _ => false,
-    }
+    matches!(kind, Kind::Plus | Kind::Minus)
 }
 
 fn is_literal(kind: Kind) -> bool
     ensures { result ≡ matches term.Literal kind }
 {
-    match kind {
-        Kind::Int | Kind::Text | Kind::True | Kind::False => true,
-        _ => false,
-    }
+    matches!(kind, Kind::Int | Kind::Text | Kind::True | Kind::False)
 }
 
 fn is_order(kind: Kind) -> bool
     ensures { result ≡ matches term.Order kind }
 {
-    match kind {
-        Kind::Sequential | Kind::Independent | Kind::Priority => true,
-        _ => false,
-    }
+    matches!(kind, Kind::Sequential | Kind::Independent | Kind::Priority)
 }
 
 fn is_count(kind: Kind) -> bool
     ensures { result ≡ matches term.Count kind }
 {
-    match kind {
-        Kind::Int | Kind::Name => true,
-        _ => false,
-    }
+    matches!(kind, Kind::Int | Kind::Name)
 }
 
 fn is_atom(kind: Kind) -> bool
     ensures { result ≡ matches term.Atom kind }
 {
-    match kind {
-        Kind::Int | Kind::Text | Kind::True | Kind::False | Kind::Name => true,
-        _ => false,
-    }
+    matches!(
+        kind,
+        Kind::Int | Kind::Text | Kind::True | Kind::False | Kind::Name
+    )
 }
 
 // Takes the token, if a text of the symbols on the stack begins with it.
@@ -159,8 +141,8 @@ fn take(
     token: Token,
 ) -> Result<bool, AllocError>
     requires { Fine stack.old }
-    ensures taken { IfOk result (λ b. OnTrue b (Taken source.now stack.old builder.old token stack.new builder.new)) }
-    ensures refused { IfOk result (λ b. OnFalse b (Refused source.now stack.old builder.old token)) }
+    ensures taken { IfOk result (λ b. OnTrue b (TakesToken source.now stack.old builder.old token stack.new builder.new)) }
+    ensures refused { IfOk result (λ b. OnFalse b (RefusesToken source.now stack.old builder.old token)) }
 {
     'steps: while let Some(symbol) = stack.pop() {
         match symbol {
@@ -182,7 +164,7 @@ fn take(
 // Holds the token, if it may stand there.
 fn keep(builder: &mut Builder, term: Term, token: Token) -> Result<bool, AllocError>
     ensures may { IfOk result (λ b. b ≡ matches term token.kind) }
-    ensures held { IfOk result (λ b. OnTrue b (builder.new ≡ held_then token builder.old)) }
+    ensures held { IfOk result (λ b. OnTrue b (builder.new ≡ with_token token builder.old)) }
 {
     if !may_stand(term, token.kind) {
         return Ok(false);
@@ -220,29 +202,29 @@ pub fn read(
     alloc: Global,
     source: &[char],
     scanned: &Scanned,
-) -> Result<List<Definition>, TextFault>
+) -> Result<List<Definition>, Failure<TextFault>>
     ensures ok { IfOk result (IsText source.now scanned.now.tokens.items) }
-    ensures err { IfErr result (IsGrammarFault source.now scanned.now.tokens.items scanned.now.end) }
+    ensures err { IfErr result (IfFault (IsGrammarFault source.now scanned.now.tokens.items scanned.now.end)) }
 {
     let mut builder = Builder::new(alloc);
     let mut stack = Stack::new(alloc);
     stack.push(Symbol::Sub(Part::Text))?;
     for token in scanned.tokens.as_slice() {
         if !take(alloc, source, &mut stack, &mut builder, *token)? {
-            return Err(token_fault(*token));
+            return Err(Failure::Fault(token_fault(*token)));
         }
     }
     if !finish(alloc, source, &mut stack, &mut builder)? {
-        return Err(scanned.end.fault(FaultKind::End));
+        return Err(Failure::Fault(scanned.end.fault(FaultKind::End)));
     }
     Ok(mem::replace(&mut builder.definitions, List::new(alloc)))
 }
 
 // The fault at a token with which no text goes on.
 fn token_fault(token: Token) -> TextFault
-    ensures { result ≡ TextFault.Fault token.span.line token.span.column FaultKind.Order }
+    ensures { result ≡ record { line = token.span.line; column = token.span.column; kind = FaultKind.Order } }
 {
-    TextFault::Fault {
+    TextFault {
         line: token.span.line,
         column: token.span.column,
         kind: FaultKind::Order,

@@ -188,7 +188,7 @@ fn write_definition(
     }
 }
 
-// Writes definitions behind another one, each after an empty line.
+// Writes the definitions after the first, each after an empty line.
 fn write_more_definitions(
     alloc: Global,
     out: &mut String,

@@ -39,7 +39,7 @@ pub enum Element {
     },
 }
 
-/// What stands in a rule and in a multi block alike.
+/// An item of a rule or of a multi block.
 #[derive(Debug, Drop)]
 pub enum Simple {
     Marked {
@@ -51,14 +51,14 @@ pub enum Simple {
         attribute: Name,
         value: NameExpr,
     },
-    /// The condition, and where the word `where` stands.
+    /// The condition, and where the word `where` is.
     Where {
         word: Span,
         test: NameExpr,
     },
 }
 
-/// What stands in a rule.
+/// An item of a rule.
 #[derive(Debug, Drop)]
 pub enum Item {
     Simple(Simple),

@@ -18,7 +18,7 @@ fn write_param(out: &mut String, param: &Param) -> Result<(), AllocError>
     out.push_str(param.kind.text.as_str())
 }
 
-// Writes parameters behind another one.
+// Writes the parameters after the first.
 fn write_more_params(out: &mut String, params: &[Param]) -> Result<(), AllocError>
     ensures { OnOk result (string_bytes out.new ≡ string_bytes out.old ++ flat_map (λ next. codes ", " ++ next) (map param_text params.now)) }
 {
@@ -86,7 +86,7 @@ fn write_bind(alloc: Global, out: &mut String, bind: &Bind) -> Result<(), AllocE
     }
 }
 
-// Writes binds behind another one.
+// Writes the binds after the first.
 fn write_more_binds(alloc: Global, out: &mut String, binds: &[Bind]) -> Result<(), AllocError>
     ensures { OnOk result (string_bytes out.new ≡ string_bytes out.old ++ flat_map (λ next. codes ", " ++ next) (map bind_text binds.now)) }
 {

@@ -1,7 +1,8 @@
 //! What the tokens of a text stand for.
 
 ghost use Rattle.std.specs.Prelude.{◌≡◌, ℕ, false, IfOk, drop, encode_utf8_all, string_bytes};
-ghost use Rattle.hs_text.specs.Words.{slice, name_of, escaped, content, text_of, direction_of, mark_of, sign_of, is_true, literal_of, atom_of, count_of, listed_of};
+ghost use Rattle.hs_text.specs.Words as spec;
+ghost use Rattle.hs_text.specs.Words.{slice, name_of, content, text_in, direction_of, mark_of, sign_of, is_true, literal_of, atom_of, count_of, list_body};
 
 use crate::syntax::{Atom, Body, Call, Count, Direction, Mark};
 use hs_expr::{List, Name, Piece, Sign, Span, Text};
@@ -31,8 +32,8 @@ pub fn name(alloc: Global, source: &[char], token: Token) -> Result<Name, AllocE
     })
 }
 
-fn unescaped(c: char) -> char
-    ensures { result ≡ escaped c }
+fn escape_value(c: char) -> char
+    ensures { result ≡ spec.escape_value c }
 {
     match c {
         'n' => '\n',
@@ -41,15 +42,15 @@ fn unescaped(c: char) -> char
     }
 }
 
-// What stands behind the first quote of a text, as it is meant.
-fn meant(alloc: Global, chars: &[char]) -> Result<String, AllocError>
+// The text that follows the first quote, without its escapes.
+fn text_content(alloc: Global, chars: &[char]) -> Result<String, AllocError>
     ensures { IfOk result (λ s. string_bytes s ≡ encode_utf8_all (content false chars.now)) }
 {
     let mut text = String::new(alloc);
     let mut escaped = false;
     for c in chars {
         if escaped {
-            text.push(unescaped(*c))?;
+            text.push(escape_value(*c))?;
             escaped = false;
         } else if *c == '"' {
             return Ok(text);
@@ -64,11 +65,11 @@ fn meant(alloc: Global, chars: &[char]) -> Result<String, AllocError>
 
 /// The text that a token in quotes means.
 pub fn text(alloc: Global, source: &[char], token: Token) -> Result<Text, AllocError>
-    ensures { IfOk result (λ t. t ≡ text_of source.now token) }
+    ensures { IfOk result (λ t. t ≡ text_in source.now token) }
 {
     let chars = part(source, token.span);
     let chars = if chars.is_empty() { chars } else { &chars[1..] };
-    Ok(Text::from_string(meant(alloc, chars)?))
+    Ok(Text::from_string(text_content(alloc, chars)?))
 }
 
 pub fn direction(kind: Kind) -> Direction
@@ -111,10 +112,7 @@ pub fn sign(kind: Kind) -> Sign
 fn truth(kind: Kind) -> bool
     ensures { result ≡ is_true kind }
 {
-    match kind {
-        Kind::True => true,
-        _ => false,
-    }
+    matches!(kind, Kind::True)
 }
 
 /// The part of an expression that a literal is.
@@ -175,7 +173,7 @@ pub fn count(alloc: Global, source: &[char], token: Token) -> Result<Count, Allo
 
 /// The body that has its calls in a list.
 pub fn listed(kind: Kind, calls: List<Call>) -> Body
-    ensures { result ≡ listed_of kind calls }
+    ensures { result ≡ list_body kind calls }
 {
     match kind {
         Kind::Independent => Body::Independent(calls),

@@ -4,16 +4,17 @@ use Rattle.std.specs.Option.{is_some}
 use Rattle.std.proofs.lemmas.List.{take-append-drop, length-take-le, take_at, drop_at}
 use Rattle.std.proofs.lemmas.List.Sums.{prefix_len-le-length}
 use Rattle.std.proofs.lemmas.Bool.Decides.{nat_tests, leb_tells}
-use Rattle.std.proofs.lemmas.Bool.{le-leb, leb-true}
+use Rattle.std.proofs.lemmas.Bool.{le-leb, leb-true, and_parts}
 use Rattle.hs_tokens.specs.declared.token.Kind.{Kind}
 use Rattle.hs_tokens.specs.declared.token.Kind.TheVariants as kind
 use Rattle.hs_tokens.specs.declared.token.Token.{Token}
-use Rattle.hs_tokens.specs.declared.token.Place.{Place}
+use Rattle.hs_tokens.specs.declared.token.Position.{Position}
 use Rattle.hs_tokens.specs.declared.scan.Element.{Element}
 use Rattle.hs_tokens.specs.declared.scan.Element.TheVariants.{Skipped, Integer, Lexeme, Unknown}
-use Rattle.hs_tokens.specs.Tokens.{is_blank, is_letter, is_digit, is_word_part, is_word, is_integer, is_text, is_sign, is_lexeme, is_comment, is_in_line, ends_line, closes, kind_in, kind_of, value_of, signs, after, decimal, token_at}
+use Rattle.hs_expr.specs.Characters.{is_letter, is_digit, is_word_part}
+use Rattle.hs_tokens.specs.Tokens.{is_blank, is_word, is_integer, is_text, is_sign, is_lexeme, is_comment, is_in_line, ends_line, closes, lookup, token_kind, token_value, signs, after, decimal, token_at}
 use Rattle.hs_tokens.specs.Lexing.{IsLongest, IsStrange, Ending, Lexes, blank, comment, token, too_large, strange, TooLarge, Strange}
-use Rattle.hs_tokens.specs.Scanning.{closing_len, word_rest_len, word_kind, text_element, sign_element, or_else, sign_at, slash_at, element_at, IsRead}
+use Rattle.hs_tokens.specs.Scanning.{closing_len, word_rest_len, word_kind, text_element, sign_element, known_or, sign_at, slash_at, element_at, Advances}
 use Rattle.hs_tokens.proofs.Longest.{is_plain, sign-short, letter-only, quote-only, not-plain, letter-lexeme, digit-lexeme, quote-lexeme, other-lexeme, run-is, run-longest, no-more, Closed, closing-closes, closes-closing, some-is}
 
 -- the characters as a front of this length and a rest
@@ -27,7 +28,7 @@ pub record Cut (cs : List ℕ) (n : ℕ) (P : List ℕ → List ℕ → Type 0) 
 
 -- what is skipped: whatever the rest is, it goes on with that
 abbrev pub Separates : List ℕ → List ℕ → Type 0
-Separates front rest = (p : Place) (ts : List Token) (e : Ending) → Lexes (after p front) rest ts e → Lexes p (front ++ rest) ts e
+Separates front rest = (p : Position) (ts : List Token) (e : Ending) → Lexes (after p front) rest ts e → Lexes p (front ++ rest) ts e
 
 pub record Number (front rest : List ℕ) : Type 0 where
   pub longest : IsLongest front rest
@@ -35,8 +36,8 @@ pub record Number (front rest : List ℕ) : Type 0 where
 
 pub record Other (k : Kind) (front rest : List ℕ) : Type 0 where
   pub longest : IsLongest front rest
-  pub kind : kind_of front ≡ k
-  pub value : value_of front ≡ 0
+  pub kind : token_kind front ≡ k
+  pub value : token_value front ≡ 0
 
 abbrev pub Describes : ℕ → List ℕ → Element → Type 0
 Describes c cs (Skipped n) = Cut (c ∷ cs) n Separates
@@ -137,10 +138,10 @@ text-cut c cs n h closed =
     }
 
 -- what begins with a character that begins no word, number, text or comment
-head-is : (c d : ℕ) (cs ds : List ℕ) → c ∷ cs ≡ d ∷ ds → c ≡ d
+pub head-is : (c d : ℕ) (cs ds : List ℕ) → c ∷ cs ≡ d ∷ ds → c ≡ d
 head-is c d cs ds e = cc
 
-tail-is : (c d : ℕ) (cs ds : List ℕ) → c ∷ cs ≡ d ∷ ds → cs ≡ ds
+pub tail-is : (c d : ℕ) (cs ds : List ℕ) → c ∷ cs ≡ d ∷ ds → cs ≡ ds
 tail-is c d cs ds e = cc
 
 strange-text : (c : ℕ) (cs : List ℕ) → (c == 34) ≡ true → is_blank c ≡ false → (c == 47) ≡ false → closing_len false cs ≡ None → IsStrange c cs
@@ -183,15 +184,11 @@ strange-other c cs l d q b no_comment no_sign = record {
       let q' : (x == 34) ≡ false = subst (λ (z : ℕ). (z == 34) ≡ false) e q in
       other-lexeme x xs l' d' q' ∙ no_sign (x ∷ xs) rest w
 
-pub and-right : (a b : Bool) → (a && b) ≡ true → b ≡ true
-and-right true b e = e
-and-right false b e = cc
-
 long-sign : (x y z : ℕ) (zs : List ℕ) → is_sign (x ∷ y ∷ z ∷ zs) ≡ false
 long-sign x y z zs = step (is_sign (x ∷ y ∷ z ∷ zs)) refl where
   step : (t : Bool) → is_sign (x ∷ y ∷ z ∷ zs) ≡ t → t ≡ false
   step false e = refl
-  step true e = let s : (is_plain x && nat_le (length (y ∷ z ∷ zs)) 1) ≡ true = sign-short (x ∷ y ∷ z ∷ zs) e in let t : length (y ∷ z ∷ zs) ≤ 1 = leb-true (length (y ∷ z ∷ zs)) 1 (and-right (is_plain x) (nat_le (length (y ∷ z ∷ zs)) 1) s) in absurd (omega arith)
+  step true e = let s : (is_plain x && nat_le (length (y ∷ z ∷ zs)) 1) ≡ true = sign-short (x ∷ y ∷ z ∷ zs) e in let t : length (y ∷ z ∷ zs) ≤ 1 = leb-true (length (y ∷ z ∷ zs)) 1 ((and_parts (is_plain x) (nat_le (length (y ∷ z ∷ zs)) 1) s).1) in absurd (omega arith)
 
 none-no : (o : Option Kind) → o ≡ None → is_some o ≡ false
 none-no None e = refl
@@ -201,7 +198,7 @@ some-yes : (o : Option Kind) (k : Kind) → o ≡ Some k → is_some o ≡ true
 some-yes None k e = cc
 some-yes (Some j) k e = refl
 
-sign-two : (c d : ℕ) (cs : List ℕ) (k : Kind) → is_letter c ≡ false → is_digit c ≡ false → (c == 34) ≡ false → kind_in signs (c ∷ d ∷ []) ≡ Some k → Cut (c ∷ d ∷ cs) 2 (Other k)
+sign-two : (c d : ℕ) (cs : List ℕ) (k : Kind) → is_letter c ≡ false → is_digit c ≡ false → (c == 34) ≡ false → lookup signs (c ∷ d ∷ []) ≡ Some k → Cut (c ∷ d ∷ cs) 2 (Other k)
 sign-two c d cs k l g q found = record {
   front = c ∷ d ∷ [];
   rest = cs;
@@ -210,7 +207,7 @@ sign-two c d cs k l g q found = record {
   some = omega arith;
   is = record {
     longest = record {
-      is = other-lexeme c (d ∷ []) l g q ∙ some-yes (kind_in signs (c ∷ d ∷ [])) k found;
+      is = other-lexeme c (d ∷ []) l g q ∙ some-yes (lookup signs (c ∷ d ∷ [])) k found;
       longest = longest;
     };
     kind = rw (g, q, l, found) refl;
@@ -221,7 +218,7 @@ sign-two c d cs k l g q found = record {
   longest [] others w h = refl
   longest (x ∷ more) others w h = let a : is_sign (c ∷ d ∷ x ∷ more) ≡ true = sym (other-lexeme c (d ∷ x ∷ more) l g q) ∙ h in absurd (cc (long-sign c d x more))
 
-sign-one : (c : ℕ) (cs : List ℕ) (k : Kind) → is_letter c ≡ false → is_digit c ≡ false → (c == 34) ≡ false → ((d : ℕ) (ds : List ℕ) → cs ≡ d ∷ ds → kind_in signs (c ∷ d ∷ []) ≡ None) → kind_in signs (c ∷ []) ≡ Some k → Cut (c ∷ cs) 1 (Other k)
+sign-one : (c : ℕ) (cs : List ℕ) (k : Kind) → is_letter c ≡ false → is_digit c ≡ false → (c == 34) ≡ false → ((d : ℕ) (ds : List ℕ) → cs ≡ d ∷ ds → lookup signs (c ∷ d ∷ []) ≡ None) → lookup signs (c ∷ []) ≡ Some k → Cut (c ∷ cs) 1 (Other k)
 sign-one c cs k l g q alone found = record {
   front = c ∷ [];
   rest = cs;
@@ -230,7 +227,7 @@ sign-one c cs k l g q alone found = record {
   some = omega arith;
   is = record {
     longest = record {
-      is = other-lexeme c [] l g q ∙ some-yes (kind_in signs (c ∷ [])) k found;
+      is = other-lexeme c [] l g q ∙ some-yes (lookup signs (c ∷ [])) k found;
       longest = longest;
     };
     kind = rw (g, q, l, found) refl;
@@ -239,13 +236,13 @@ sign-one c cs k l g q alone found = record {
 } where
   longest : (more others : List ℕ) → cs ≡ more ++ others → is_lexeme (c ∷ more) ≡ true → more ≡ []
   longest [] others w h = refl
-  longest (x ∷ []) others w h = let a : is_sign (c ∷ x ∷ []) ≡ true = sym (other-lexeme c (x ∷ []) l g q) ∙ h in absurd (cc (none-no (kind_in signs (c ∷ x ∷ [])) (alone x others w)))
+  longest (x ∷ []) others w h = let a : is_sign (c ∷ x ∷ []) ≡ true = sym (other-lexeme c (x ∷ []) l g q) ∙ h in absurd (cc (none-no (lookup signs (c ∷ x ∷ [])) (alone x others w)))
   longest (x ∷ y ∷ more) others w h = let a : is_sign (c ∷ x ∷ y ∷ more) ≡ true = sym (other-lexeme c (x ∷ y ∷ more) l g q) ∙ h in absurd (cc (long-sign c x y more))
 
-sign-none : (c : ℕ) (cs : List ℕ) → ((d : ℕ) (ds : List ℕ) → cs ≡ d ∷ ds → kind_in signs (c ∷ d ∷ []) ≡ None) → kind_in signs (c ∷ []) ≡ None → (front rest : List ℕ) → c ∷ cs ≡ front ++ rest → is_sign front ≡ false
+sign-none : (c : ℕ) (cs : List ℕ) → ((d : ℕ) (ds : List ℕ) → cs ≡ d ∷ ds → lookup signs (c ∷ d ∷ []) ≡ None) → lookup signs (c ∷ []) ≡ None → (front rest : List ℕ) → c ∷ cs ≡ front ++ rest → is_sign front ≡ false
 sign-none c cs alone none [] rest w = refl
-sign-none c cs alone none (x ∷ []) rest w = let e : c ≡ x = head-is c x cs rest w in rw (← e) (none-no (kind_in signs (c ∷ [])) none)
-sign-none c cs alone none (x ∷ y ∷ []) rest w = let e : c ≡ x = head-is c x cs (y ∷ rest) w in rw (← e) (none-no (kind_in signs (c ∷ y ∷ [])) (alone y rest (tail-is c x cs (y ∷ rest) w)))
+sign-none c cs alone none (x ∷ []) rest w = let e : c ≡ x = head-is c x cs rest w in rw (← e) (none-no (lookup signs (c ∷ [])) none)
+sign-none c cs alone none (x ∷ y ∷ []) rest w = let e : c ≡ x = head-is c x cs (y ∷ rest) w in rw (← e) (none-no (lookup signs (c ∷ y ∷ [])) (alone y rest (tail-is c x cs (y ∷ rest) w)))
 sign-none c cs alone none (x ∷ y ∷ z ∷ zs) rest w = long-sign x y z zs
 
 no-slash : (c : ℕ) (cs : List ℕ) → (c == 47) ≡ false → (front rest : List ℕ) → c ∷ cs ≡ front ++ rest → is_comment front ≡ false
@@ -255,17 +252,17 @@ no-slash c cs h (x ∷ y ∷ xs) rest w = let e : c ≡ x = head-is c x cs (y �
 
 -- what a sign's characters are
 module _ (c : ℕ) (l : is_letter c ≡ false) (g : is_digit c ≡ false) (q : (c == 34) ≡ false) (b : is_blank c ≡ false) (s : (c == 47) ≡ false) where
-  one-sign : (cs : List ℕ) (o : Option Kind) → ((d : ℕ) (ds : List ℕ) → cs ≡ d ∷ ds → kind_in signs (c ∷ d ∷ []) ≡ None) → kind_in signs (c ∷ []) ≡ o → Describes c cs (sign_element 1 o)
+  one-sign : (cs : List ℕ) (o : Option Kind) → ((d : ℕ) (ds : List ℕ) → cs ≡ d ∷ ds → lookup signs (c ∷ d ∷ []) ≡ None) → lookup signs (c ∷ []) ≡ o → Describes c cs (sign_element 1 o)
   one-sign cs None alone e = strange-other c cs l g q b (no-slash c cs s) (sign-none c cs alone e)
   one-sign cs (Some k) alone e = sign-one c cs k l g q alone e
 
-  two-signs : (d : ℕ) (cs : List ℕ) (o : Option Kind) → kind_in signs (c ∷ d ∷ []) ≡ o → Describes c (d ∷ cs) (or_else (sign_element 2 o) (sign_element 1 (kind_in signs (c ∷ []))))
-  two-signs d cs None e = one-sign (d ∷ cs) (kind_in signs (c ∷ [])) (λ x xs w. rw (← (head-is d x cs xs w)) e) refl
+  two-signs : (d : ℕ) (cs : List ℕ) (o : Option Kind) → lookup signs (c ∷ d ∷ []) ≡ o → Describes c (d ∷ cs) (known_or (sign_element 2 o) (sign_element 1 (lookup signs (c ∷ []))))
+  two-signs d cs None e = one-sign (d ∷ cs) (lookup signs (c ∷ [])) (λ x xs w. rw (← (head-is d x cs xs w)) e) refl
   two-signs d cs (Some k) e = sign-two c d cs k l g q e
 
   sign-described : (cs : List ℕ) → Describes c cs (sign_at c cs)
-  sign-described [] = one-sign [] (kind_in signs (c ∷ [])) (λ x xs w. cc) refl
-  sign-described (d ∷ cs) = two-signs d cs (kind_in signs (c ∷ d ∷ [])) refl
+  sign-described [] = one-sign [] (lookup signs (c ∷ [])) (λ x xs w. cc) refl
+  sign-described (d ∷ cs) = two-signs d cs (lookup signs (c ∷ d ∷ [])) refl
 
 -- a comment goes to the line's end
 ends : (cs : List ℕ) → ends_line (drop (prefix_len is_in_line cs) cs) ≡ true
@@ -355,8 +352,8 @@ cut-front : {P : List ℕ → List ℕ → Type 0} (cs : List ℕ) (n : ℕ) (cu
 cut-front cs n cut = rw cut.whole (take_at cut.front cut.rest n cut.len)
 
 -- what is said of a front is said of the characters
-pub cut-read : {P : List ℕ → List ℕ → Type 0} (p : Place) (cs : List ℕ) (n : ℕ) (found : Option Token) (cut : Cut cs n P)
-    → ((ts : List Token) (e : Ending) → Lexes (after p cut.front) cut.rest ts e → Lexes p cs (option_to_list found ++ ts) e) → IsRead p cs n found
+pub cut-read : {P : List ℕ → List ℕ → Type 0} (p : Position) (cs : List ℕ) (n : ℕ) (found : Option Token) (cut : Cut cs n P)
+    → ((ts : List Token) (e : Ending) → Lexes (after p cut.front) cut.rest ts e → Lexes p cs (option_to_list found ++ ts) e) → Advances p cs n found
 cut-read p cs n found cut on = record {
   some = cut.some;
   within = omega (arith, ap length cut.whole, length-append cut.front cut.rest, cut.len);
@@ -366,7 +363,7 @@ cut-read p cs n found cut on = record {
       on ts e (rw (a, b) at l);
 }
 
-pub read-skipped : (p : Place) (c : ℕ) (cs : List ℕ) (n : ℕ) → element_at c cs ≡ Skipped n → IsRead p (c ∷ cs) n None
+pub read-skipped : (p : Position) (c : ℕ) (cs : List ℕ) (n : ℕ) → element_at c cs ≡ Skipped n → Advances p (c ∷ cs) n None
 read-skipped p c cs n e =
     let cut : Cut (c ∷ cs) n Separates = subst (Describes c cs) e (described c cs) in
     cut-read p (c ∷ cs) n None cut (λ ts end l. subst (λ x. Lexes p x ts end) (sym cut.whole) (cut.is p ts end l))
@@ -374,33 +371,33 @@ read-skipped p c cs n e =
 zero-small : 0 < 2 ^ 63
 zero-small = lit< tt
 
-token-is : (p : Place) (k : Kind) (v : ℕ) (n : ℕ) (front : List ℕ) → length front ≡ n → kind_of front ≡ k → value_of front ≡ v
+token-is : (p : Position) (k : Kind) (v : ℕ) (n : ℕ) (front : List ℕ) → length front ≡ n → token_kind front ≡ k → token_value front ≡ v
     → token_at p front ≡ record { kind = k; number = pos v; span = record { start = p.index; end = p.index + n; line = p.line; column = p.column } }
 token-is p k v n front a b d = rw (a, b, d) refl
 
-pub read-number : (p : Place) (c : ℕ) (cs : List ℕ) (n v : ℕ) → element_at c cs ≡ Integer n → v ≡ decimal (take n (c ∷ cs)) → v < 2 ^ 63
-    → IsRead p (c ∷ cs) n (Some (record { kind = kind.Int; number = pos v; span = record { start = p.index; end = p.index + n; line = p.line; column = p.column } }))
+pub read-number : (p : Position) (c : ℕ) (cs : List ℕ) (n v : ℕ) → element_at c cs ≡ Integer n → v ≡ decimal (take n (c ∷ cs)) → v < 2 ^ 63
+    → Advances p (c ∷ cs) n (Some (record { kind = kind.Int; number = pos v; span = record { start = p.index; end = p.index + n; line = p.line; column = p.column } }))
 read-number p c cs n v e value small =
     let cut : Cut (c ∷ cs) n Number = subst (Describes c cs) e (described c cs) in
     let front : take n (c ∷ cs) ≡ cut.front = cut-front (c ∷ cs) n cut in
-    let is_value : value_of cut.front ≡ v = rw cut.is.integer (ap decimal (sym front) ∙ sym value) in
-    let is_kind : kind_of cut.front ≡ kind.Int = rw cut.is.integer refl in
+    let is_value : token_value cut.front ≡ v = rw cut.is.integer (ap decimal (sym front) ∙ sym value) in
+    let is_kind : token_kind cut.front ≡ kind.Int = rw cut.is.integer refl in
     cut-read p (c ∷ cs) n (Some _) cut (λ ts end l. subst (λ t. Lexes p (c ∷ cs) (t ∷ ts) end) (token-is p kind.Int v n cut.front cut.len is_kind is_value) (token cut.front cut.rest cut.whole cut.is.longest (rw is_value small) l))
 
-pub read-other : (p : Place) (c : ℕ) (cs : List ℕ) (k : Kind) (n : ℕ) → element_at c cs ≡ Lexeme k n
-    → IsRead p (c ∷ cs) n (Some (record { kind = k; number = pos 0; span = record { start = p.index; end = p.index + n; line = p.line; column = p.column } }))
+pub read-other : (p : Position) (c : ℕ) (cs : List ℕ) (k : Kind) (n : ℕ) → element_at c cs ≡ Lexeme k n
+    → Advances p (c ∷ cs) n (Some (record { kind = k; number = pos 0; span = record { start = p.index; end = p.index + n; line = p.line; column = p.column } }))
 read-other p c cs k n e =
     let cut : Cut (c ∷ cs) n (Other k) = subst (Describes c cs) e (described c cs) in
     cut-read p (c ∷ cs) n (Some _) cut (λ ts end l. subst (λ t. Lexes p (c ∷ cs) (t ∷ ts) end) (token-is p k 0 n cut.front cut.len cut.is.kind cut.is.value) (token cut.front cut.rest cut.whole cut.is.longest (rw cut.is.value zero-small) l))
 
-pub read-large : (p : Place) (c : ℕ) (cs : List ℕ) (n : ℕ) → element_at c cs ≡ Integer n → 2 ^ 63 ≤ decimal (take n (c ∷ cs)) → Lexes p (c ∷ cs) [] (TooLarge p)
+pub read-large : (p : Position) (c : ℕ) (cs : List ℕ) (n : ℕ) → element_at c cs ≡ Integer n → 2 ^ 63 ≤ decimal (take n (c ∷ cs)) → Lexes p (c ∷ cs) [] (TooLarge p)
 read-large p c cs n e large =
     let cut : Cut (c ∷ cs) n Number = subst (Describes c cs) e (described c cs) in
     let front : take n (c ∷ cs) ≡ cut.front = cut-front (c ∷ cs) n cut in
-    let is_value : value_of cut.front ≡ decimal (take n (c ∷ cs)) = rw cut.is.integer (ap decimal (sym front)) in
+    let is_value : token_value cut.front ≡ decimal (take n (c ∷ cs)) = rw cut.is.integer (ap decimal (sym front)) in
     too_large cut.front cut.rest cut.whole cut.is.longest (rw is_value large)
 
-pub read-strange : (p : Place) (c : ℕ) (cs : List ℕ) → element_at c cs ≡ Unknown → Lexes p (c ∷ cs) [] (Strange p)
+pub read-strange : (p : Position) (c : ℕ) (cs : List ℕ) → element_at c cs ≡ Unknown → Lexes p (c ∷ cs) [] (Strange p)
 read-strange p c cs e = strange c cs (subst (Describes c cs) e (described c cs))
 
 -- the characters begin with the first one
@@ -409,12 +406,12 @@ headed [] first e h = absurd (omega arith)
 headed (c ∷ cs) first e h = let f : first ≡ c = e in rw f refl
 
 -- the same, of characters that begin with a first one
-module _ (p : Place) (chars : List ℕ) (first : ℕ) (e : Element) (w : chars ≡ first ∷ drop 1 chars) (is : (cs : List ℕ) → chars ≡ first ∷ cs → e ≡ element_at first cs) where
+module _ (p : Position) (chars : List ℕ) (first : ℕ) (e : Element) (w : chars ≡ first ∷ drop 1 chars) (is : (cs : List ℕ) → chars ≡ first ∷ cs → e ≡ element_at first cs) where
   element-is : element_at first (drop 1 chars) ≡ e
   element-is = sym (is (drop 1 chars) w)
 
-  pub skipped-read : (n : ℕ) → e ≡ Skipped n → IsRead p chars n None
-  skipped-read n f = subst (λ x. IsRead p x n None) (sym w) (read-skipped p first (drop 1 chars) n (element-is ∙ f))
+  pub skipped-read : (n : ℕ) → e ≡ Skipped n → Advances p chars n None
+  skipped-read n f = subst (λ x. Advances p x n None) (sym w) (read-skipped p first (drop 1 chars) n (element-is ∙ f))
 
   pub number-within : (n : ℕ) → e ≡ Integer n → n ≤ length chars
   number-within n f =
@@ -422,13 +419,13 @@ module _ (p : Place) (chars : List ℕ) (first : ℕ) (e : Element) (w : chars �
       omega (arith, ap length w, ap length cut.whole, length-append cut.front cut.rest, cut.len)
 
   pub number-read : (n v : ℕ) → e ≡ Integer n → v ≡ decimal (take n chars) → v < 2 ^ 63
-      → IsRead p chars n (Some (record { kind = kind.Int; number = pos v; span = record { start = p.index; end = p.index + n; line = p.line; column = p.column } }))
-  number-read n v f value small = subst (λ x. IsRead p x n (Some (record { kind = kind.Int; number = pos v; span = record { start = p.index; end = p.index + n; line = p.line; column = p.column } }))) (sym w)
+      → Advances p chars n (Some (record { kind = kind.Int; number = pos v; span = record { start = p.index; end = p.index + n; line = p.line; column = p.column } }))
+  number-read n v f value small = subst (λ x. Advances p x n (Some (record { kind = kind.Int; number = pos v; span = record { start = p.index; end = p.index + n; line = p.line; column = p.column } }))) (sym w)
       (read-number p first (drop 1 chars) n v (element-is ∙ f) (value ∙ ap (λ x. decimal (take n x)) w) small)
 
   pub other-read : (k : Kind) (n : ℕ) → e ≡ Lexeme k n
-      → IsRead p chars n (Some (record { kind = k; number = pos 0; span = record { start = p.index; end = p.index + n; line = p.line; column = p.column } }))
-  other-read k n f = subst (λ x. IsRead p x n (Some (record { kind = k; number = pos 0; span = record { start = p.index; end = p.index + n; line = p.line; column = p.column } }))) (sym w)
+      → Advances p chars n (Some (record { kind = k; number = pos 0; span = record { start = p.index; end = p.index + n; line = p.line; column = p.column } }))
+  other-read k n f = subst (λ x. Advances p x n (Some (record { kind = k; number = pos 0; span = record { start = p.index; end = p.index + n; line = p.line; column = p.column } }))) (sym w)
       (read-other p first (drop 1 chars) k n (element-is ∙ f))
 
   pub large-read : (n : ℕ) → e ≡ Integer n → 2 ^ 63 ≤ decimal (take n chars) → Lexes p chars [] (TooLarge p)

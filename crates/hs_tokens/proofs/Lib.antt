@@ -1,5 +1,5 @@
 pub mod Letters
 pub mod Longest
 pub mod Elements
-pub mod Places
+pub mod Positions
 pub mod Lexed

@@ -8,14 +8,15 @@ use Rattle.std.proofs.lemmas.Bool.Decides.{nat_tests}
 use Rattle.std.specs.Cmp.Lexicographic.{pointwise}
 use Rattle.hs_expr.specs.Equality.{lists_exact, nat_exact}
 use Rattle.hs_tokens.specs.declared.token.Kind.{Kind}
-use Rattle.hs_tokens.specs.Tokens.{is_blank, is_letter, is_digit, is_word, is_integer, is_text, is_sign, is_lexeme, is_escaped, is_nil, closes, kind_in, signs}
+use Rattle.hs_expr.specs.Characters.{is_letter, is_digit}
+use Rattle.hs_tokens.specs.Tokens.{is_blank, is_word, is_integer, is_text, is_sign, is_lexeme, is_escaped, is_nil, closes, lookup, signs}
 use Rattle.hs_tokens.specs.Scanning.{closing_len, farther}
 
 -- what each spelling of a table has, each found one has
-pub found : (p : List ℕ → Bool) (table : List (List ℕ × Kind)) → list_all (λ e. p e.0) table ≡ true → (cs : List ℕ) (k : Kind) → kind_in table cs ≡ Some k → p cs ≡ true
+pub found : (p : List ℕ → Bool) (table : List (List ℕ × Kind)) → list_all (λ e. p e.0) table ≡ true → (cs : List ℕ) (k : Kind) → lookup table cs ≡ Some k → p cs ≡ true
 found p [] h cs k e = cc
 found p (x ∷ table) h cs k e = step (pointwise nat_eq x.0 cs) refl h e (λ q. found p table q cs k) where
-  step : (t : Bool) → pointwise nat_eq x.0 cs ≡ t → (p x.0 && list_all (λ e. p e.0) table) ≡ true → cond t (Some x.1) (kind_in table cs) ≡ Some k → (list_all (λ e. p e.0) table ≡ true → kind_in table cs ≡ Some k → p cs ≡ true) → p cs ≡ true
+  step : (t : Bool) → pointwise nat_eq x.0 cs ≡ t → (p x.0 && list_all (λ e. p e.0) table) ≡ true → cond t (Some x.1) (lookup table cs) ≡ Some k → (list_all (λ e. p e.0) table ≡ true → lookup table cs ≡ Some k → p cs ≡ true) → p cs ≡ true
   step true t h e rest = let same : x.0 ≡ cs = (lists_exact nat_exact x.0 cs).0 t in let all : p x.0 ≡ true = grind arith in rw (← same) all
   step false t h e rest = rest (grind arith) e
 
@@ -35,8 +36,8 @@ signs_short : list_all (λ e. short e.0) signs ≡ true
 signs_short = refl
 
 pub sign-short : (cs : List ℕ) → is_sign cs ≡ true → short cs ≡ true
-sign-short cs h = step (kind_in signs cs) refl h where
-  step : (o : Option Kind) → kind_in signs cs ≡ o → is_some o ≡ true → short cs ≡ true
+sign-short cs h = step (lookup signs cs) refl h where
+  step : (o : Option Kind) → lookup signs cs ≡ o → is_some o ≡ true → short cs ≡ true
   step None e h = cc
   step (Some k) e h = found short signs signs_short cs k e
 

@@ -1,3 +1,4 @@
+-- Kinds of tokens, compared by their numbers.
 use Rattle.std.specs.Prelude.{ℕ, Bool, nat_eq}
 use Rattle.hs_tokens.specs.declared.token.Kind.{Kind}
 use Rattle.hs_tokens.specs.declared.token.Kind.TheVariants as kind

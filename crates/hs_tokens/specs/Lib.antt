@@ -2,3 +2,4 @@ pub mod Tokens
 pub mod Lexing
 pub mod Scanning
 pub mod Kinds
+pub mod FaultWords

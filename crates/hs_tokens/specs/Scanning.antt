@@ -1,15 +1,17 @@
+-- How a text is read token by token.
 use Rattle.std.specs.Prelude.{ℕ, ◌+◌, ◌<◌, ◌≤◌, ◌++◌, drop, option_to_list, ◌==◌, Bool, true, false, nat_le, if◌then◌else◌, List, [], ◌∷◌, take, length, Option, Some, None, unwrap_or, min}
 use Rattle.std.specs.List.{prefix_len}
+use Rattle.hs_expr.specs.Characters.{is_letter, is_digit, is_word_part}
 use Rattle.hs_tokens.specs.declared.token.Kind.{Kind}
 use Rattle.hs_tokens.specs.declared.token.Kind.TheVariants as kind
 use Rattle.hs_tokens.specs.declared.scan.Element.{Element}
 use Rattle.hs_tokens.specs.declared.scan.Element.TheVariants.{Skipped, Integer, Lexeme, Unknown}
 use Rattle.hs_tokens.specs.declared.token.Token.{Token}
-use Rattle.hs_tokens.specs.declared.token.Place.{Place}
+use Rattle.hs_tokens.specs.declared.token.Position.{Position}
 use Rattle.hs_tokens.specs.declared.fault.FaultKind.{FaultKind}
 use Rattle.hs_tokens.specs.declared.fault.FaultKind.TheVariants as fault
 use Rattle.hs_tokens.specs.Lexing.{Ending, TooLarge, Strange, Lexes}
-use Rattle.hs_tokens.specs.Tokens.{after, is_blank, is_letter, is_digit, is_word_part, is_escaped, is_in_line, kind_in, reserved, signs}
+use Rattle.hs_tokens.specs.Tokens.{after, is_blank, is_escaped, is_in_line, lookup, reserved_words, signs}
 
 -- This many more.
 abbrev pub farther : ℕ → Option ℕ → Option ℕ
@@ -31,7 +33,7 @@ abbrev pub word_rest_len : List ℕ → ℕ
 word_rest_len cs = min (prefix_len is_word_part cs) 63
 
 abbrev pub word_kind : List ℕ → Kind
-word_kind word = unwrap_or (kind_in reserved word) kind.Name
+word_kind word = unwrap_or (lookup reserved_words word) kind.Name
 
 abbrev pub text_element : Option ℕ → Element
 text_element None = Unknown
@@ -41,15 +43,16 @@ abbrev pub sign_element : ℕ → Option Kind → Element
 sign_element n None = Unknown
 sign_element n (Some k) = Lexeme k n
 
-abbrev pub or_else : Element → Element → Element
-or_else Unknown e = e
-or_else (Skipped n) e = Skipped n
-or_else (Integer n) e = Integer n
-or_else (Lexeme k n) e = Lexeme k n
+-- The first element, unless it is unknown.
+abbrev pub known_or : Element → Element → Element
+known_or Unknown e = e
+known_or (Skipped n) e = Skipped n
+known_or (Integer n) e = Integer n
+known_or (Lexeme k n) e = Lexeme k n
 
 abbrev pub sign_at : ℕ → List ℕ → Element
-sign_at c [] = sign_element 1 (kind_in signs (c ∷ []))
-sign_at c (d ∷ cs) = or_else (sign_element 2 (kind_in signs (c ∷ d ∷ []))) (sign_element 1 (kind_in signs (c ∷ [])))
+sign_at c [] = sign_element 1 (lookup signs (c ∷ []))
+sign_at c (d ∷ cs) = known_or (sign_element 2 (lookup signs (c ∷ d ∷ []))) (sign_element 1 (lookup signs (c ∷ [])))
 
 abbrev pub slash_at : List ℕ → Element
 slash_at [] = Unknown
@@ -65,14 +68,14 @@ element_at c cs =
     else if c == 47 then slash_at cs
     else sign_at c cs
 
--- From a place on, so many characters are a token or separate: whatever the rest is, it goes on with that.
-pub record IsRead (p : Place) (cs : List ℕ) (n : ℕ) (found : Option Token) : Type 0 where
+-- From a position on, n characters are a token or separate, whatever follows them.
+pub record Advances (p : Position) (cs : List ℕ) (n : ℕ) (found : Option Token) : Type 0 where
   pub some : 0 < n
   pub within : n ≤ length cs
   pub on : (ts : List Token) (e : Ending) → Lexes (after p (take n cs)) (drop n cs) ts e → Lexes p cs (option_to_list found ++ ts) e
 
--- This fault is that of the characters from a place on, which begin with a wrong token.
-abbrev pub FaultIs : Place → FaultKind → List ℕ → Type 0
+-- This fault is that of the characters from a position on, which begin with a wrong token.
+abbrev pub FaultIs : Position → FaultKind → List ℕ → Type 0
 FaultIs p fault.Character cs = Lexes p cs [] (Strange p)
 FaultIs p fault.Number cs = Lexes p cs [] (TooLarge p)
 FaultIs p fault.Order cs = ⊥

@@ -1,26 +1,16 @@
-use Rattle.std.specs.Prelude.{ℕ, ◌+◌, ◌-◌, ◌*◌, ◌==◌, nat_le, nat_eq, Bool, true, false, ◌||◌, ◌&&◌, if◌then◌else◌, List, [], ◌∷◌, ◌++◌, length, Option, Some, None, is_some, unwrap_or, codes, pos}
+-- What the tokens of a text are. Characters are their code points, and a text is a list of them.
+use Rattle.std.specs.Prelude.{ℕ, ◌+◌, ◌-◌, ◌*◌, ◌==◌, nat_le, nat_eq, Bool, true, false, ◌||◌, ◌&&◌, if◌then◌else◌, List, [], ◌∷◌, length, Option, Some, None, is_some, unwrap_or, codes, pos}
 use Rattle.std.specs.List.{list_all}
 use Rattle.std.specs.Cmp.Lexicographic.{pointwise}
+use Rattle.hs_expr.specs.Characters.{is_letter, is_digit, is_word_part}
 use Rattle.hs_tokens.specs.declared.token.Kind.{Kind}
 use Rattle.hs_tokens.specs.declared.token.Kind.TheVariants as kind
 use Rattle.hs_tokens.specs.declared.token.Token.{Token}
-use Rattle.hs_tokens.specs.declared.token.Place.{Place}
-
--- Characters are their code points, and a text is a list of them.
+use Rattle.hs_tokens.specs.declared.token.Position.{Position}
 
 -- A space, a tab, a carriage return or a line feed.
 abbrev pub is_blank : ℕ → Bool
 is_blank c = c == 32 || c == 9 || c == 13 || c == 10
-
--- An ASCII letter or `_`.
-abbrev pub is_letter : ℕ → Bool
-is_letter c = (nat_le 65 c && nat_le c 90) || (nat_le 97 c && nat_le c 122) || c == 95
-
-abbrev pub is_digit : ℕ → Bool
-is_digit c = nat_le 48 c && nat_le c 57
-
-abbrev pub is_word_part : ℕ → Bool
-is_word_part c = is_letter c || is_digit c
 
 -- A word is a letter and then letters and digits, at most 64 characters in all.
 abbrev pub is_word : List ℕ → Bool
@@ -36,12 +26,12 @@ abbrev pub is_nil : List ℕ → Bool
 is_nil [] = true
 is_nil (c ∷ cs) = false
 
--- What stands behind a backslash: a double quote, a backslash, `n` or `t`.
+-- What may follow a backslash: a double quote, a backslash, `n` or `t`.
 abbrev pub is_escaped : ℕ → Bool
 is_escaped c = c == 34 || c == 92 || c == 110 || c == 116
 
 -- Whether the characters go on with a text that is open, up to and with its last quote: characters
--- from U+0020 on, and escapes. The first argument says whether a backslash stands before them.
+-- from U+0020 on, and escapes. The first argument says whether a backslash is before them.
 abbrev pub closes : Bool → List ℕ → Bool
 closes escaped [] = false
 closes true (c ∷ cs) = is_escaped c && closes false cs
@@ -55,9 +45,9 @@ abbrev pub is_text : List ℕ → Bool
 is_text [] = false
 is_text (c ∷ cs) = c == 34 && closes false cs
 
--- The words of a definition and its parameters.
-abbrev pub definition_words : List (List ℕ × Kind)
-definition_words =
+-- The reserved words.
+abbrev pub reserved_words : List (List ℕ × Kind)
+reserved_words =
     (codes "rule", kind.Rule) ∷
     (codes "unit", kind.Unit) ∷
     (codes "in", kind.In) ∷
@@ -65,11 +55,6 @@ definition_words =
     (codes "int", kind.IntWord) ∷
     (codes "bool", kind.Bool) ∷
     (codes "text", kind.TextWord) ∷
-    []
-
--- The words of a rule's items.
-abbrev pub item_words : List (List ℕ × Kind)
-item_words =
     (codes "preserve", kind.Preserve) ∷
     (codes "create", kind.Create) ∷
     (codes "delete", kind.Delete) ∷
@@ -80,11 +65,6 @@ item_words =
     (codes "edge", kind.Edge) ∷
     (codes "set", kind.Set) ∷
     (codes "where", kind.Where) ∷
-    []
-
--- The words of a unit's body.
-abbrev pub body_words : List (List ℕ × Kind)
-body_words =
     (codes "sequential", kind.Sequential) ∷
     (codes "independent", kind.Independent) ∷
     (codes "priority", kind.Priority) ∷
@@ -94,21 +74,12 @@ body_words =
     (codes "else", kind.Else) ∷
     (codes "loop", kind.Loop) ∷
     (codes "iterated", kind.Iterated) ∷
-    []
-
--- The words of expressions.
-abbrev pub value_words : List (List ℕ × Kind)
-value_words =
     (codes "and", kind.And) ∷
     (codes "or", kind.Or) ∷
     (codes "not", kind.Not) ∷
     (codes "true", kind.True) ∷
     (codes "false", kind.False) ∷
     []
-
--- The reserved words.
-abbrev pub reserved : List (List ℕ × Kind)
-reserved = definition_words ++ (item_words ++ (body_words ++ value_words))
 
 -- The signs.
 abbrev pub signs : List (List ℕ × Kind)
@@ -134,25 +105,25 @@ signs =
     (codes "*", kind.Times) ∷
     []
 
--- The kind that stands beside a spelling, if any does.
-abbrev pub kind_in : List (List ℕ × Kind) → List ℕ → Option Kind
-kind_in [] cs = None
-kind_in (entry ∷ table) cs = if pointwise nat_eq entry.0 cs then Some entry.1 else kind_in table cs
+-- The kind beside a spelling in a table.
+abbrev pub lookup : List (List ℕ × Kind) → List ℕ → Option Kind
+lookup [] cs = None
+lookup (entry ∷ table) cs = if pointwise nat_eq entry.0 cs then Some entry.1 else lookup table cs
 
 abbrev pub is_sign : List ℕ → Bool
-is_sign cs = is_some (kind_in signs cs)
+is_sign cs = is_some (lookup signs cs)
 
 -- Whether the characters are a token.
 abbrev pub is_lexeme : List ℕ → Bool
 is_lexeme cs = is_word cs || is_integer cs || is_text cs || is_sign cs
 
 -- The kind of a token that is spelled so.
-abbrev pub kind_of : List ℕ → Kind
-kind_of cs =
+abbrev pub token_kind : List ℕ → Kind
+token_kind cs =
     if is_integer cs then kind.Int
     else if is_text cs then kind.Text
-    else if is_word cs then unwrap_or (kind_in reserved cs) kind.Name
-    else unwrap_or (kind_in signs cs) kind.Name
+    else if is_word cs then unwrap_or (lookup reserved_words cs) kind.Name
+    else unwrap_or (lookup signs cs) kind.Name
 
 -- The number that digits stand for, after those that stand for n.
 abbrev pub decimal_from : ℕ → List ℕ → ℕ
@@ -164,8 +135,8 @@ abbrev pub decimal : List ℕ → ℕ
 decimal cs = decimal_from 0 cs
 
 -- The value that a token has: that of an integer, and 0 for any other.
-abbrev pub value_of : List ℕ → ℕ
-value_of cs = if is_integer cs then decimal cs else 0
+abbrev pub token_value : List ℕ → ℕ
+token_value cs = if is_integer cs then decimal cs else 0
 
 -- A comment is `//` and what follows in its line.
 abbrev pub is_in_line : ℕ → Bool
@@ -181,25 +152,25 @@ abbrev pub ends_line : List ℕ → Bool
 ends_line [] = true
 ends_line (c ∷ cs) = c == 10
 
--- The place after a character.
-abbrev pub next : Place → ℕ → Place
+-- The position after a character.
+abbrev pub next : Position → ℕ → Position
 next p c =
     if c == 10 then record { index = p.index + 1; line = p.line + 1; column = 1 }
     else record { index = p.index + 1; line = p.line; column = p.column + 1 }
 
--- The place after some characters.
-abbrev pub after : Place → List ℕ → Place
+-- The position after some characters.
+abbrev pub after : Position → List ℕ → Position
 after p [] = p
 after p (c ∷ cs) = after (next p c) cs
 
--- Where a text begins.
-abbrev pub first_place : Place
-first_place = record { index = 0; line = 1; column = 1 }
+-- The position at which a text begins.
+abbrev pub text_start : Position
+text_start = record { index = 0; line = 1; column = 1 }
 
--- The token that is spelled so and stands at this place.
-abbrev pub token_at : Place → List ℕ → Token
+-- The token that is spelled so, at this position.
+abbrev pub token_at : Position → List ℕ → Token
 token_at p cs = record {
-  kind = kind_of cs;
-  number = pos (value_of cs);
+  kind = token_kind cs;
+  number = pos (token_value cs);
   span = record { start = p.index; end = p.index + length cs; line = p.line; column = p.column };
 }

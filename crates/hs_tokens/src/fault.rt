@@ -1,7 +1,5 @@
 ghost use Rattle.std.specs.Prelude.{◌≡◌};
-ghost use Rattle.hs_tokens.specs.declared.fault.TextFault.TheVariants.{NoMemory};
-
-use std::alloc::{AllocError, AllocFailed};
+ghost use Rattle.hs_tokens.specs.FaultWords as spec;
 
 /// What is wrong with a text.
 #[derive(Clone, Copy, PartialEq, Eq, Debug)]
@@ -16,30 +14,25 @@ pub enum FaultKind {
     End,
 }
 
-/// Why a text was not parsed.
+impl FaultKind {
+    /// The word by which it is printed.
+    pub fn word(self) -> &'static str
+        ensures { result.now ≡ spec.text_fault_word self }
+    {
+        match self {
+            FaultKind::Character => "character",
+            FaultKind::Number => "number",
+            FaultKind::Order => "order",
+            FaultKind::End => "end",
+        }
+    }
+}
+
+/// Why a text is not parsed: a fault at this line and this column, which count from 1; a column
+/// counts characters.
 #[derive(Clone, Copy, PartialEq, Eq, Debug)]
-pub enum TextFault {
-    NoMemory,
-    /// The fault is at this line and this column, which count from 1; a column counts characters.
-    Fault {
-        line: usize,
-        column: usize,
-        kind: FaultKind,
-    },
-}
-
-impl From<AllocError> for TextFault {
-    ghost from_gives = { λ _ e. e ≡ NoMemory };
-
-    fn from(_: AllocError) -> TextFault {
-        TextFault::NoMemory
-    }
-}
-
-impl<T: Drop> From<AllocFailed<T>> for TextFault {
-    ghost from_gives = { λ _ e. e ≡ NoMemory };
-
-    fn from(_: AllocFailed<T>) -> TextFault {
-        TextFault::NoMemory
-    }
+pub struct TextFault {
+    pub line: usize,
+    pub column: usize,
+    pub kind: FaultKind,
 }

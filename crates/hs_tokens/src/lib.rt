@@ -1,7 +1,8 @@
-//! The tokens of rule and unit text: names, literals, reserved words and signs, each with its place.
+//! The tokens of rule and unit text: names, literals, reserved words and signs, each with its span.
 //!
-//! [`tokenize`] reads characters as tokens, the longest at each place, or tells the first one that is
-//! wrong. What tokens are say the definitions in `specs/Tokens.antt` and `specs/Lexing.antt`.
+//! [`tokenize`] reads characters as tokens, the longest at each position, or reports the first one
+//! that is wrong. `specs/Tokens.antt` defines what a token is, and `specs/Lexing.antt` which tokens a
+//! text is.
 #![tactic(auto)]
 
 mod fault;
@@ -12,6 +13,6 @@ mod tests;
 mod token;
 
 pub use fault::{FaultKind, TextFault};
-pub use laws::{each_is_lexed, lexed_once};
+pub use laws::{each_is_lexed, lexed_once, lexemes_begin, positions_move};
 pub use scan::{Element, Scanned, tokenize};
-pub use token::{Kind, Place, Token};
+pub use token::{Kind, Position, Token};

@@ -1,15 +1,18 @@
-ghost use Rattle.std.specs.Prelude.{◌≡◌, ℕ, List, [], ◌∷◌, ◌==◌, ◌<◌, ◌≤◌, ◌^◌, ◌+◌, IsTrue, false, nat_eq, length, IfOk, IfErr, OnOk, ◌++◌, option_to_list, IfSome, MatchOption, MatchResult, pos};
+ghost use Rattle.std.specs.Prelude.{◌≡◌, ℕ, List, [], ◌∷◌, ◌==◌, ◌<◌, ◌≤◌, ◌^◌, ◌+◌, IsTrue, false, nat_eq, length, map, IfOk, IfErr, OnOk, ◌++◌, option_to_list, IfSome, MatchOption, MatchResult, pos};
 ghost use Rattle.std.specs.List.{prefix_len};
 ghost use Rattle.std.specs.Cmp.Lexicographic.{pointwise};
-ghost use Rattle.hs_tokens.specs.Tokens.{is_blank, is_letter, is_digit, is_word_part, is_escaped, is_in_line, kind_in, definition_words, item_words, body_words, value_words, signs, decimal, after, first_place};
+ghost use Rattle.hs_expr.specs.Characters.{is_letter, is_digit, is_word_part};
+ghost use Rattle.hs_expr.specs.Failures.{IfFault};
+ghost use Rattle.hs_tokens.specs.Tokens as spec;
+ghost use Rattle.hs_tokens.specs.Tokens.{is_blank, is_escaped, is_in_line, signs, decimal, next, after, text_start};
 ghost use Rattle.hs_tokens.specs.Lexing.{Lexes, Whole, IsTokenFault};
-ghost use Rattle.hs_tokens.specs.Scanning.{closing_len, word_rest_len, word_kind, sign_at, slash_at, element_at, IsRead, FaultIs};
+ghost use Rattle.hs_tokens.specs.Scanning.{closing_len, word_rest_len, word_kind, sign_at, slash_at, element_at, Advances, FaultIs};
 
-use crate::{FaultKind, Kind, Place, TextFault, Token};
-use hs_expr::Span;
+use crate::{FaultKind, Kind, Position, TextFault, Token};
+use hs_expr::{Failure, Span};
 use std::alloc::{AllocError, Global};
 
-/// What begins at a place.
+/// What begins at a position.
 #[derive(Clone, Copy)]
 pub enum Element {
     /// This many characters that separate.
@@ -57,7 +60,7 @@ fn is_in_line_char(c: char) -> bool
     c != '\n'
 }
 
-/// How many letters and digits stand in front.
+// How many letters and digits are in front.
 fn word_part_count(chars: &[char]) -> usize
     ensures within { result ≤ length chars.now }
     ensures count { result ≡ prefix_len is_word_part chars.now }
@@ -72,7 +75,7 @@ fn digit_count(chars: &[char]) -> usize
     chars.iter().take_while(|c| is_digit_char(**c)).count()
 }
 
-/// How many characters stand before the end of the line.
+// How many characters are before the end of the line.
 fn line_len(chars: &[char]) -> usize
     ensures within { result ≤ length chars.now }
     ensures count { result ≡ prefix_len is_in_line chars.now }
@@ -94,7 +97,7 @@ fn spells(word: &[char], letters: &[u8]) -> bool
     true
 }
 
-/// How many characters go on with a text that is open, up to and with its last quote.
+// How many characters go on with a text that is open, up to and with its last quote.
 fn text_len(chars: &[char]) -> Option<usize>
     ensures within { IfSome result (λ n. n ≤ length chars.now) }
     ensures len { result ≡ closing_len false chars.now }
@@ -117,205 +120,89 @@ fn text_len(chars: &[char]) -> Option<usize>
     None
 }
 
-fn definition_word(word: &[char]) -> Option<Kind>
-    ensures { result ≡ kind_in definition_words word.now }
-{
-    if spells(word, b"rule") {
-        return Some(Kind::Rule);
-    }
-    if spells(word, b"unit") {
-        return Some(Kind::Unit);
-    }
-    if spells(word, b"in") {
-        return Some(Kind::In);
-    }
-    if spells(word, b"out") {
-        return Some(Kind::Out);
-    }
-    if spells(word, b"int") {
-        return Some(Kind::IntWord);
-    }
-    if spells(word, b"bool") {
-        return Some(Kind::Bool);
-    }
-    if spells(word, b"text") {
-        return Some(Kind::TextWord);
-    }
-    None
-}
+const RESERVED_WORDS: [(&[u8], Kind); 31] = [
+    (b"rule", Kind::Rule),
+    (b"unit", Kind::Unit),
+    (b"in", Kind::In),
+    (b"out", Kind::Out),
+    (b"int", Kind::IntWord),
+    (b"bool", Kind::Bool),
+    (b"text", Kind::TextWord),
+    (b"preserve", Kind::Preserve),
+    (b"create", Kind::Create),
+    (b"delete", Kind::Delete),
+    (b"forbid", Kind::Forbid),
+    (b"require", Kind::Require),
+    (b"multi", Kind::Multi),
+    (b"node", Kind::Node),
+    (b"edge", Kind::Edge),
+    (b"set", Kind::Set),
+    (b"where", Kind::Where),
+    (b"sequential", Kind::Sequential),
+    (b"independent", Kind::Independent),
+    (b"priority", Kind::Priority),
+    (b"conditional", Kind::Conditional),
+    (b"if", Kind::If),
+    (b"then", Kind::Then),
+    (b"else", Kind::Else),
+    (b"loop", Kind::Loop),
+    (b"iterated", Kind::Iterated),
+    (b"and", Kind::And),
+    (b"or", Kind::Or),
+    (b"not", Kind::Not),
+    (b"true", Kind::True),
+    (b"false", Kind::False),
+];
 
-fn item_word(word: &[char]) -> Option<Kind>
-    ensures { result ≡ kind_in item_words word.now }
-{
-    if spells(word, b"preserve") {
-        return Some(Kind::Preserve);
-    }
-    if spells(word, b"create") {
-        return Some(Kind::Create);
-    }
-    if spells(word, b"delete") {
-        return Some(Kind::Delete);
-    }
-    if spells(word, b"forbid") {
-        return Some(Kind::Forbid);
-    }
-    if spells(word, b"require") {
-        return Some(Kind::Require);
-    }
-    if spells(word, b"multi") {
-        return Some(Kind::Multi);
-    }
-    if spells(word, b"node") {
-        return Some(Kind::Node);
-    }
-    if spells(word, b"edge") {
-        return Some(Kind::Edge);
-    }
-    if spells(word, b"set") {
-        return Some(Kind::Set);
-    }
-    if spells(word, b"where") {
-        return Some(Kind::Where);
-    }
-    None
-}
+const SIGNS: [(&[u8], Kind); 19] = [
+    (b"(", Kind::LeftParen),
+    (b")", Kind::RightParen),
+    (b"{", Kind::LeftBrace),
+    (b"}", Kind::RightBrace),
+    (b":", Kind::Colon),
+    (b";", Kind::Semicolon),
+    (b",", Kind::Comma),
+    (b".", Kind::Dot),
+    (b"->", Kind::Arrow),
+    (b"=", Kind::Assign),
+    (b"==", Kind::Equal),
+    (b"!=", Kind::NotEqual),
+    (b"<", Kind::Less),
+    (b"<=", Kind::AtMost),
+    (b">", Kind::Greater),
+    (b">=", Kind::AtLeast),
+    (b"+", Kind::Plus),
+    (b"-", Kind::Minus),
+    (b"*", Kind::Times),
+];
 
-fn body_word(word: &[char]) -> Option<Kind>
-    ensures { result ≡ kind_in body_words word.now }
+// The kind beside a spelling in a table.
+fn lookup(mut table: &[(&[u8], Kind)], chars: &[char]) -> Option<Kind>
+    ensures { result ≡ spec.lookup (map (λ entry. (entry.0.now, entry.1)) table.entry.now) chars.now }
 {
-    if spells(word, b"sequential") {
-        return Some(Kind::Sequential);
-    }
-    if spells(word, b"independent") {
-        return Some(Kind::Independent);
-    }
-    if spells(word, b"priority") {
-        return Some(Kind::Priority);
-    }
-    if spells(word, b"conditional") {
-        return Some(Kind::Conditional);
-    }
-    if spells(word, b"if") {
-        return Some(Kind::If);
-    }
-    if spells(word, b"then") {
-        return Some(Kind::Then);
-    }
-    if spells(word, b"else") {
-        return Some(Kind::Else);
-    }
-    if spells(word, b"loop") {
-        return Some(Kind::Loop);
-    }
-    if spells(word, b"iterated") {
-        return Some(Kind::Iterated);
-    }
-    None
-}
-
-fn value_word(word: &[char]) -> Option<Kind>
-    ensures { result ≡ kind_in value_words word.now }
-{
-    if spells(word, b"and") {
-        return Some(Kind::And);
-    }
-    if spells(word, b"or") {
-        return Some(Kind::Or);
-    }
-    if spells(word, b"not") {
-        return Some(Kind::Not);
-    }
-    if spells(word, b"true") {
-        return Some(Kind::True);
-    }
-    if spells(word, b"false") {
-        return Some(Kind::False);
+    while let [entry, rest @ ..] = table {
+        if spells(chars, entry.0) {
+            return Some(entry.1);
+        }
+        table = rest;
     }
     None
 }
 
 // The kind of a word: that of a reserved word, or a name.
-#[tactic(auto, using(crate::proofs::Letters::kind_in_parts))]
 fn kind_of_word(word: &[char]) -> Kind
     ensures { result ≡ word_kind word.now }
 {
-    if let Some(kind) = definition_word(word) {
-        return kind;
+    match lookup(&RESERVED_WORDS, word) {
+        Some(kind) => kind,
+        None => Kind::Name,
     }
-    if let Some(kind) = item_word(word) {
-        return kind;
-    }
-    if let Some(kind) = body_word(word) {
-        return kind;
-    }
-    if let Some(kind) = value_word(word) {
-        return kind;
-    }
-    Kind::Name
 }
 
-// The kind of a sign of these characters.
 fn sign(chars: &[char]) -> Option<Kind>
-    ensures { result ≡ kind_in signs chars.now }
+    ensures { result ≡ spec.lookup signs chars.now }
 {
-    if spells(chars, b"(") {
-        return Some(Kind::LeftParen);
-    }
-    if spells(chars, b")") {
-        return Some(Kind::RightParen);
-    }
-    if spells(chars, b"{") {
-        return Some(Kind::LeftBrace);
-    }
-    if spells(chars, b"}") {
-        return Some(Kind::RightBrace);
-    }
-    if spells(chars, b":") {
-        return Some(Kind::Colon);
-    }
-    if spells(chars, b";") {
-        return Some(Kind::Semicolon);
-    }
-    if spells(chars, b",") {
-        return Some(Kind::Comma);
-    }
-    if spells(chars, b".") {
-        return Some(Kind::Dot);
-    }
-    if spells(chars, b"->") {
-        return Some(Kind::Arrow);
-    }
-    if spells(chars, b"=") {
-        return Some(Kind::Assign);
-    }
-    if spells(chars, b"==") {
-        return Some(Kind::Equal);
-    }
-    if spells(chars, b"!=") {
-        return Some(Kind::NotEqual);
-    }
-    if spells(chars, b"<") {
-        return Some(Kind::Less);
-    }
-    if spells(chars, b"<=") {
-        return Some(Kind::AtMost);
-    }
-    if spells(chars, b">") {
-        return Some(Kind::Greater);
-    }
-    if spells(chars, b">=") {
-        return Some(Kind::AtLeast);
-    }
-    if spells(chars, b"+") {
-        return Some(Kind::Plus);
-    }
-    if spells(chars, b"-") {
-        return Some(Kind::Minus);
-    }
-    if spells(chars, b"*") {
-        return Some(Kind::Times);
-    }
-    None
+    lookup(&SIGNS, chars)
 }
 
 // The sign in front, the longest one.
@@ -395,52 +282,75 @@ fn number(digits: &[char]) -> Option<i64>
     Some(n as i64)
 }
 
-// The place after some characters.
-fn place_after(place: Place, chars: &[char]) -> Place
-    requires index { place.index + length chars.now < 2 ^ 64 }
-    requires line { place.line + length chars.now < 2 ^ 64 }
-    requires column { place.column + length chars.now < 2 ^ 64 }
-    ensures { result ≡ after place chars.now }
+// The position after the character at this one.
+fn next_position(position: Position, c: char) -> Position
+    requires index { position.index + 1 < 2 ^ 64 }
+    requires line { position.line + 1 < 2 ^ 64 }
+    requires column { position.column + 1 < 2 ^ 64 }
+    ensures { result ≡ next position c }
 {
-    let mut place = place;
-    for c in chars {
-        place = place.next(*c);
+    let index = position.index + 1;
+    if c == '\n' {
+        Position {
+            index,
+            line: position.line + 1,
+            column: 1,
+        }
+    } else {
+        Position {
+            index,
+            line: position.line,
+            column: position.column + 1,
+        }
     }
-    place
 }
 
-// The token of these characters, which stand here.
-fn make_token(place: Place, kind: Kind, number: i64, len: usize) -> Token
-    requires { place.index + len < 2 ^ 64 }
-    ensures { result ≡ record { kind = kind; number = number; span = record { start = place.index; end = place.index + len; line = place.line; column = place.column } } }
+// The position after some characters.
+fn position_after(position: Position, chars: &[char]) -> Position
+    requires index { position.index + length chars.now < 2 ^ 64 }
+    requires line { position.line + length chars.now < 2 ^ 64 }
+    requires column { position.column + length chars.now < 2 ^ 64 }
+    ensures { result ≡ after position chars.now }
+{
+    let mut position = position;
+    for c in chars {
+        position = next_position(position, *c);
+    }
+    position
+}
+
+// The token of this many characters, at this position.
+fn make_token(position: Position, kind: Kind, number: i64, len: usize) -> Token
+    requires { position.index + len < 2 ^ 64 }
+    ensures { result ≡ record { kind = kind; number = number; span = record { start = position.index; end = position.index + len; line = position.line; column = position.column } } }
 {
     Token {
         kind,
         number,
         span: Span {
-            start: place.index,
-            end: place.index + len,
-            line: place.line,
-            column: place.column,
+            start: position.index,
+            end: position.index + len,
+            line: position.line,
+            column: position.column,
         },
     }
 }
 
-// Reads what begins at a place: how many characters it takes, and the token that they are, if they
+// Reads what begins at a position: how many characters it takes, and the token that they are, if they
 // do not just separate.
-fn read(place: Place, chars: &[char]) -> Result<(usize, Option<Token>), FaultKind>
+fn read(position: Position, chars: &[char]) -> Result<(usize, Option<Token>), FaultKind>
     requires some { 0 < length chars.now }
-    requires index { place.index + length chars.now < 2 ^ 64 }
-    ensures ok { IfOk result (λ r. IsRead place chars.now r.0 r.1) }
-    ensures err { IfErr result (λ kind. FaultIs place kind chars.now) }
+    requires index { position.index + length chars.now < 2 ^ 64 }
+    ensures ok { IfOk result (λ r. Advances position chars.now r.0 r.1) }
+    ensures err { IfErr result (λ kind. FaultIs position kind chars.now) }
 {
     match element_in_front(chars[0], chars) {
         Element::Skipped(len) => Ok((len, None)),
         Element::Integer(len) => match number(&chars[..len]) {
-            Some(value) => Ok((len, Some(make_token(place, Kind::Int, value, len)))),
+            Some(value) => Ok((len, Some(make_token(position, Kind::Int, value, len)))),
             None => Err(FaultKind::Number),
         },
-        Element::Lexeme { kind, len } => Ok((len, Some(make_token(place, kind, 0, len)))),
+        Element::Lexeme { kind, len } => Ok((len, Some(make_token(position, kind, 0, len)))),
         Element::Unknown => Err(FaultKind::Character),
     }
 }
@@ -458,30 +368,33 @@ fn keep(tokens: &mut Vec<Token>, found: Option<Token>) -> Result<(), AllocError>
     }
 }
 
-/// The tokens of a text, and the place where it ends.
+/// The tokens of a text, and the position where it ends.
 #[derive(Debug, Drop)]
 pub struct Scanned {
     pub tokens: Vec<Token>,
-    pub end: Place,
+    pub end: Position,
 }
 
 /// Reads a text as tokens, up to the first wrong one.
-pub fn tokenize(alloc: Global, chars: &[char]) -> Result<Scanned, TextFault>
-    ensures ok { IfOk result (λ s. Lexes first_place chars.now s.tokens.items Whole) }
-    ensures end { IfOk result (λ s. s.end ≡ after first_place chars.now) }
-    ensures err { IfErr result (IsTokenFault chars.now) }
+pub fn tokenize(alloc: Global, chars: &[char]) -> Result<Scanned, Failure<TextFault>>
+    ensures ok { IfOk result (λ s. Lexes text_start chars.now s.tokens.items Whole) }
+    ensures end { IfOk result (λ s. s.end ≡ after text_start chars.now) }
+    ensures err { IfErr result (IfFault (IsTokenFault chars.now)) }
 {
     let mut tokens = Vec::new(alloc);
-    let mut place = Place::FIRST;
-    while place.index < chars.len() {
-        let rest = &chars[place.index..];
-        match read(place, rest) {
+    let mut position = Position::START;
+    while position.index < chars.len() {
+        let rest = &chars[position.index..];
+        match read(position, rest) {
             Ok((len, found)) => {
                 keep(&mut tokens, found)?;
-                place = place_after(place, &rest[..len]);
+                position = position_after(position, &rest[..len]);
             }
-            Err(kind) => return Err(place.fault(kind)),
+            Err(kind) => return Err(Failure::Fault(position.fault(kind))),
         }
     }
-    Ok(Scanned { tokens, end: place })
+    Ok(Scanned {
+        tokens,
+        end: position,
+    })
 }

@@ -1,11 +1,12 @@
 use crate::{
-    FaultKind, Kind, Place, Scanned, TextFault, Token, each_is_lexed, lexed_once, tokenize,
+    FaultKind, Kind, Position, Scanned, TextFault, Token, each_is_lexed, lexed_once, lexemes_begin,
+    positions_move, tokenize,
 };
-use hs_expr::Span;
-use std::alloc::{AllocError, Global};
+use hs_expr::{Failure, Span};
+use std::alloc::Global;
 use std::test::Fail;
 
-fn scanned(alloc: Global, text: &str) -> Result<Scanned, TextFault> {
+fn scanned(alloc: Global, text: &str) -> Result<Scanned, Failure<TextFault>> {
     let chars: Vec<char> = text.chars().collect(alloc)?;
     tokenize(alloc, chars.as_slice())
 }
@@ -19,7 +20,7 @@ fn span(start: usize, end: usize, line: usize, column: usize) -> Span {
     }
 }
 
-// Whether these are the tokens of the text, by kind and place.
+// Whether these are the tokens of the text, by kind and position.
 fn has_tokens(scanned: &Scanned, wanted: &[(Kind, Span)]) -> bool {
     scanned.tokens.len() == wanted.len()
         && scanned.tokens.iter().zip(wanted.iter()).all(|(token, (kind, span))| token.kind.is(*kind)
@@ -76,61 +77,67 @@ fn integers_have_their_values(rt: HostRuntime) -> Result<(), Fail> {
     Ok(())
 }
 
-fn fault_of(alloc: Global, text: &str) -> Option<TextFault> {
+fn failure_of(alloc: Global, text: &str) -> Option<Failure<TextFault>> {
     match scanned(alloc, text) {
         Ok(_) => None,
-        Err(fault) => Some(fault),
+        Err(failure) => Some(failure),
     }
 }
 
 #[test]
-fn the_first_wrong_token_is_told(rt: HostRuntime) {
+fn the_first_wrong_token_is_reported(rt: HostRuntime) {
     let cases = [
         (
             "a\n é",
-            Place {
+            Position {
                 index: 3,
                 line: 2,
                 column: 2,
             },
             FaultKind::Character,
         ),
-        ("\"a", Place::FIRST, FaultKind::Character),
-        ("9223372036854775808 @", Place::FIRST, FaultKind::Number),
+        ("\"a", Position::START, FaultKind::Character),
+        ("9223372036854775808 @", Position::START, FaultKind::Number),
     ];
-    for (text, place, kind) in cases {
+    for (text, position, kind) in cases {
         assert_eq!(rt;
-            fault_of(rt.alloc(), text),
-            Some(place.fault(kind)),
+            failure_of(rt.alloc(), text),
+            Some(Failure::Fault(position.fault(kind))),
             "{text}"
         );
     }
 }
 
 #[test]
-fn places_go_on_by_characters(rt: HostRuntime) {
-    let second = Place::FIRST.next('é');
-    assert_eq!(rt;
-        second,
-        Place {
-            index: 1,
-            line: 1,
-            column: 2
-        }
-    );
-    assert_eq!(rt;
-        second.next('\n'),
-        Place {
-            index: 2,
-            line: 2,
-            column: 1
-        }
-    );
+fn positions_go_on_by_characters(rt: HostRuntime) -> Result<(), Fail> {
+    let cases = [("// é", 4, 1, 5), ("// é\n", 5, 2, 1)];
+    for (text, index, line, column) in cases {
+        let Ok(found) = scanned(rt.alloc(), text) else {
+            return Err("no tokens".into());
+        };
+        let end = Position {
+            index,
+            line,
+            column,
+        };
+        assert_eq!(rt; found.end, end);
+    }
     assert!(rt; Token::NONE.kind.is(Kind::Name));
+    Ok(())
+}
+
+#[test]
+fn kinds_have_their_words(rt: HostRuntime) {
+    assert_eq!(rt; FaultKind::Character.word(), "character");
+    assert_eq!(rt; FaultKind::Number.word(), "number");
+    assert_eq!(rt; FaultKind::Order.word(), "order");
+    assert_eq!(rt; FaultKind::End.word(), "end");
 }
 
 #[test]
 fn the_laws_are_calls(_rt: HostRuntime) {
     each_is_lexed();
     lexed_once();
+    lexemes_begin();
+    positions_move();
 }

@@ -1,4 +1,4 @@
-ghost use Rattle.std.specs.Prelude.{◌≡◌, ◌+◌, ◌^◌, ◌<◌};
+ghost use Rattle.std.specs.Prelude.{◌≡◌};
 
 use crate::{FaultKind, TextFault};
 use hs_expr::Span;
@@ -81,7 +81,7 @@ impl Kind {
     }
 }
 
-/// A token with its place in the text.
+/// A token with its span in the text.
 #[derive(Clone, Copy, Debug)]
 pub struct Token {
     pub kind: Kind,
@@ -91,7 +91,7 @@ pub struct Token {
 }
 
 impl Token {
-    /// A token that stands nowhere.
+    /// A token of no text.
     pub const NONE: Token = Token {
         kind: Kind::Name,
         number: 0,
@@ -104,56 +104,31 @@ impl Token {
     };
 }
 
-/// A place in a text: how many characters stand before it, and its line and column, which count
+/// A position in a text: how many characters are before it, and its line and column, which count
 /// from 1.
 #[derive(Clone, Copy, PartialEq, Eq, Debug)]
-pub struct Place {
+pub struct Position {
     pub index: usize,
     pub line: usize,
     pub column: usize,
 }
 
-impl Place {
-    ghost use Rattle.hs_tokens.specs.Tokens.{next};
-
+impl Position {
     /// Where a text begins.
-    pub const FIRST: Place = Place {
+    pub const START: Position = Position {
         index: 0,
         line: 1,
         column: 1,
     };
 
-    /// The fault of this kind at this place.
+    /// The fault of this kind at this position.
     pub fn fault(self, kind: FaultKind) -> TextFault
-        ensures { result ≡ TextFault.Fault self.line self.column kind }
+        ensures { result ≡ record { line = self.line; column = self.column; kind = kind } }
     {
-        TextFault::Fault {
+        TextFault {
             line: self.line,
             column: self.column,
             kind,
-        }
-    }
-
-    /// The place after the character that stands here.
-    pub fn next(self, c: char) -> Place
-        requires index { self.index + 1 < 2 ^ 64 }
-        requires line { self.line + 1 < 2 ^ 64 }
-        requires column { self.column + 1 < 2 ^ 64 }
-        ensures { result ≡ next self c }
-    {
-        let index = self.index + 1;
-        if c == '\n' {
-            Place {
-                index,
-                line: self.line + 1,
-                column: 1,
-            }
-        } else {
-            Place {
-                index,
-                line: self.line,
-                column: self.column + 1,
-            }
         }
     }
 }

@@ -14,7 +14,7 @@ use Rattle.hs_types.specs.declared.rule.Rule.{Rule}
 use Rattle.hs_types.specs.declared.rule.SlotKind.{SlotKind}
 use Rattle.hs_types.specs.Conditions.{env_of, AreTrue, AreFit}
 use Rattle.hs_types.specs.Dangling.{dropped_nodes, dropped_edges}
-use Rattle.hs_types.specs.Lists.{Apart, EachPair}
+use Rattle.hs_expr.specs.Lists.{Apart, EachPair}
 use Rattle.hs_types.specs.MatchOrder.{IsEarlier}
 use Rattle.hs_types.specs.PlainMatch.{image, Extends, kernel_of}
 

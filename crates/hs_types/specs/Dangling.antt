@@ -5,7 +5,7 @@ use Rattle.hs_types.specs.declared.graph.Edge.{Edge}
 use Rattle.hs_types.specs.declared.graph.Graph.{Graph}
 use Rattle.hs_types.specs.declared.matching.Extension.{Extension}
 use Rattle.hs_types.specs.declared.rule.Shape.{Shape}
-use Rattle.hs_types.specs.Lists.{has, beside}
+use Rattle.hs_expr.specs.Lists.{has, beside}
 use Rattle.hs_types.specs.Pattern.{is_drop, left_nodes, left_edges}
 
 -- The images of dropped nodes, and those of dropped edges.

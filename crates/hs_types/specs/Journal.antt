@@ -4,6 +4,7 @@ use Rattle.std.specs.List.{All, filter, filter_map, flat_map, fold, range_with_l
 use Rattle.std.specs.Arc.{arc_value}
 use Rattle.std.specs.Option.{option_map, option_and_then, unwrap_or}
 use Rattle.hs_expr.specs.declared.value.Value.{Value}
+use Rattle.hs_types.specs.declared.limits.TheConstants.{MAX_NUMBERS}
 use Rattle.hs_types.specs.declared.entry.Cause.{Cause}
 use Rattle.hs_types.specs.declared.entry.Cause.TheVariants as cause
 use Rattle.hs_types.specs.declared.entry.Entry.{Entry}
@@ -24,7 +25,7 @@ use Rattle.hs_types.specs.declared.request.Args.{Args}
 use Rattle.hs_types.specs.declared.rule.Rule.{Rule}
 use Rattle.hs_types.specs.declared.unit.RuleSet.{RuleSet}
 use Rattle.hs_types.specs.Arguments.{ArgsFit}
-use Rattle.hs_types.specs.Lists.{map_all}
+use Rattle.hs_expr.specs.Lists.{map_all}
 use Rattle.hs_types.specs.Plan.{plan_of}
 use Rattle.hs_types.specs.Step.{new_objects, step}
 use Rattle.hs_types.specs.TypedGraph.{object_at, object_named, value_at}
@@ -51,7 +52,7 @@ gone_objects g plan = filter_map (λ n. option_map (λ object. record { name = o
 
 -- At most 1,000,000,000 objects, and as many edges, were drawn: opening ones count, and those that went.
 abbrev pub IsWithinNumbers : Graph → Type 0
-IsWithinNumbers g = (g.next_object ≤ 1000000000) × (g.next_edge ≤ 1000000000)
+IsWithinNumbers g = (g.next_object ≤ MAX_NUMBERS) × (g.next_edge ≤ MAX_NUMBERS)
 
 abbrev pub meta_of : RuleSet → Metamodel
 meta_of rules = arc_value rules.meta

@@ -1,4 +1,4 @@
-pub mod Lists
+pub mod Reachability
 pub mod Metamodel
 pub mod TypedGraph
 pub mod Pattern
@@ -19,4 +19,5 @@ pub mod Spares
 pub mod Elements
 pub mod Outs
 pub mod Limits
-pub mod Supertypes
+pub mod Additions
+pub mod Names

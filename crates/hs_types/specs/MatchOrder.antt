@@ -1,13 +1,7 @@
 -- The order of matches, extensions and copies.
-use Rattle.std.specs.Prelude.{ℕ, ◌<◌, ◌≡◌, ◌⊎◌, List, [], ◌∷◌, Option, MatchOption}
+use Rattle.std.specs.Prelude.{◌≡◌, ◌⊎◌, Option, MatchOption}
+use Rattle.hs_expr.specs.Lexicographic.{IsBefore}
 use Rattle.hs_types.specs.declared.matching.Extension.{Extension}
-
--- Lists of numbers in lexicographic order. A list comes before each that goes on from it.
-abbrev pub IsBefore : List ℕ → List ℕ → Type 0
-IsBefore [] [] = ⊥
-IsBefore [] (n ∷ ns) = Unit {0}
-IsBefore (m ∷ ms) [] = ⊥
-IsBefore (m ∷ ms) (n ∷ ns) = (m < n) ⊎ ((m ≡ n) × IsBefore ms ns)
 
 -- The numbers of the objects decide, in written order of the nodes; where they are the same, those of the edges do.
 abbrev pub IsEarlier : Extension → Extension → Type 0

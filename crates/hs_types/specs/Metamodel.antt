@@ -1,5 +1,5 @@
 -- Metamodels, after Ecore: classes with supertypes, and the attributes and references that they own.
-use Rattle.std.specs.Prelude.{ℕ, ◌^◌, ◌<◌, ◌≤◌, ◌≡◌, ◌⊎◌, List, [], ◌++◌, is_some, map, length, Bool, true, false, eqb, nat_le, nat_lt, Option, Some, None, IsSomeAnd, IfSome, EachIndex, slice_get}
+use Rattle.std.specs.Prelude.{ℕ, ◌^◌, ◌<◌, ◌≤◌, ◌≡◌, ◌⊎◌, List, [], ◌++◌, is_some, map, length, Bool, true, false, eqb, ◌||◌, nat_le, nat_lt, Option, Some, None, IsSomeAnd, IfSome, EachIndex, slice_get}
 use Rattle.std.specs.List.{All, AllPairs, filter, flat_map, list_all}
 use Rattle.std.specs.Option.{option_map, option_and_then, unwrap_or}
 use Rattle.hs_expr.specs.declared.value.Kind.{Kind}
@@ -14,7 +14,8 @@ use Rattle.hs_types.specs.declared.meta.Feature.{Feature}
 use Rattle.hs_types.specs.declared.meta.FeatureKind.{FeatureKind}
 use Rattle.hs_types.specs.declared.meta.FeatureKind.TheVariants.{Attribute, Reference}
 use Rattle.hs_types.specs.declared.meta.Metamodel.{Metamodel}
-use Rattle.hs_types.specs.Lists.{has, Differ, each_once, places}
+use Rattle.hs_expr.specs.Lists.{has, Differ, each_once, places}
+use Rattle.hs_types.specs.Reachability.{reaches}
 
 abbrev pub class_at : Metamodel → ℕ → Option Class
 class_at m c = slice_get m.classes c
@@ -42,6 +43,10 @@ HasSuper m c d = IsSomeAnd (class_at m c) (λ class. has class.supers d ≡ true
 pub data Conforms (m : Metamodel) : ℕ → ℕ → Type 0 where
   itself : (c : ℕ) → Conforms m c c
   above : (c d e : ℕ) → HasSuper m c d → Conforms m d e → Conforms m c e
+
+-- Whether class c is class d or below it, by the list of each class's direct supertypes.
+abbrev pub conforms : List (List ℕ) → ℕ → ℕ → Bool
+conforms supers c d = eqb c d || reaches supers c d
 
 -- A class of which there can be objects.
 abbrev pub IsConcrete : Metamodel → ℕ → Type 0

@@ -33,10 +33,10 @@ is_make Drop = false
 is_make Make = true
 
 -- What an inverse does with an element: dropped and made change places.
-abbrev pub exchanged : Mark → Mark
-exchanged Keep = Keep
-exchanged Drop = Make
-exchanged Make = Drop
+abbrev pub inverse_mark : Mark → Mark
+inverse_mark Keep = Keep
+inverse_mark Drop = Make
+inverse_mark Make = Drop
 
 abbrev pub left_nodes : List PatternNode → List PatternNode
 left_nodes nodes = filter (λ node. is_left node.mark) nodes

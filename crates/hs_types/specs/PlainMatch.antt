@@ -8,7 +8,7 @@ use Rattle.hs_types.specs.declared.meta.Metamodel.{Metamodel}
 use Rattle.hs_types.specs.declared.rule.PatternEdge.{PatternEdge}
 use Rattle.hs_types.specs.declared.rule.PatternNode.{PatternNode}
 use Rattle.hs_types.specs.declared.rule.Shape.{Shape}
-use Rattle.hs_types.specs.Lists.{Differ}
+use Rattle.hs_expr.specs.Lists.{Differ}
 use Rattle.hs_types.specs.Pattern.{left_nodes, left_edges, no_shape}
 use Rattle.hs_types.specs.TypedGraph.{edge_at, IsOf}
 

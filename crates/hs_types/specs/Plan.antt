@@ -25,7 +25,7 @@ use Rattle.hs_types.specs.declared.rule.SlotKind.TheVariants.{Attribute, Link, C
 use Rattle.hs_types.specs.Conditions.{env_of}
 use Rattle.hs_types.specs.Copies.{Copy, copies_of, copy_env, nodes_of, images_of}
 use Rattle.hs_types.specs.Dangling.{NoneDangle}
-use Rattle.hs_types.specs.Lists.{has, Differ, EachPair}
+use Rattle.hs_expr.specs.Lists.{has, Differ, EachPair}
 use Rattle.hs_types.specs.Metamodel.{Conforms, attributes_of, default_of, features_of, fits, target_of}
 use Rattle.hs_types.specs.Pattern.{is_make, made_nodes, made_edges, node_is}
 use Rattle.hs_types.specs.PlainMatch.{image, kernel_of}
@@ -53,16 +53,16 @@ objects_for m env sets n (node ∷ nodes) = cond (is_make node.mark) (record { c
 abbrev pub end_of : List PatternNode → List ℕ → ℕ → End
 end_of nodes images n = if node_is is_make nodes n then New (length (made_nodes (take n nodes))) else Old (image nodes images n)
 
--- The same behind so many further made objects.
-abbrev pub behind : ℕ → End → End
-behind count (Old n) = Old n
-behind count (New i) = New (i + count)
+-- The same end, after `count` further made objects.
+abbrev pub end_after : ℕ → End → End
+end_after count (Old n) = Old n
+end_after count (New i) = New (i + count)
 
 -- The same of a copy, where the copies before it make so many objects: a node of the kernel keeps its object.
 abbrev pub copy_end : Rule → Extension → ℕ → Copy → ℕ → End
 copy_end rule f count copy n =
     if nat_lt n (length rule.shape.nodes) then end_of rule.shape.nodes f.nodes n
-    else behind count (end_of (nodes_of rule copy.multi) (images_of f copy.found) n)
+    else end_after count (end_of (nodes_of rule copy.multi) (images_of f copy.found) n)
 
 abbrev pub edges_for : (ℕ → End) → List PatternEdge → List MadeEdge
 edges_for end edges = map (λ edge. record { source = end edge.source; reference = edge.reference; target = end edge.target }) (made_edges edges)

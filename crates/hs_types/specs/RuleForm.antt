@@ -25,9 +25,9 @@ use Rattle.hs_types.specs.declared.rule.SetItem.{SetItem}
 use Rattle.hs_types.specs.declared.rule.Shape.{Shape}
 use Rattle.hs_types.specs.declared.rule.SlotKind.{SlotKind}
 use Rattle.hs_types.specs.declared.rule.SlotKind.TheVariants.{Attribute, Link, Container}
-use Rattle.hs_types.specs.Lists.{has, same_text, Differ, EachPair}
+use Rattle.hs_expr.specs.Lists.{has, same_text, Differ, EachPair}
 use Rattle.hs_types.specs.Metamodel.{Conforms, HaveCommon, IsConcrete, attributes_of, features_of, kind_of_type, target_of, type_of}
-use Rattle.hs_types.specs.Pattern.{exchanged, is_drop, is_keep, is_kind, is_left, is_make, node_is}
+use Rattle.hs_types.specs.Pattern.{inverse_mark, is_drop, is_keep, is_kind, is_left, is_make, node_is}
 
 -- Objects can be of the node's class, and one can be made of it where the node is made.
 abbrev pub NodeFits : Metamodel → PatternNode → Type 0
@@ -153,7 +153,7 @@ pub record IsRule (m : Metamodel) (rule : Rule) : Type 0 where
 -- The inverse of a shape: dropped and made change places, and slots stay.
 abbrev pub inverse : Shape → Shape
 inverse shape = record {
-  nodes = map (λ node. record { name = node.name; class = node.class; mark = exchanged node.mark }) shape.nodes;
-  edges = map (λ edge. record { source = edge.source; reference = edge.reference; target = edge.target; mark = exchanged edge.mark }) shape.edges;
+  nodes = map (λ node. record { name = node.name; class = node.class; mark = inverse_mark node.mark }) shape.nodes;
+  edges = map (λ edge. record { source = edge.source; reference = edge.reference; target = edge.target; mark = inverse_mark edge.mark }) shape.edges;
   slots = shape.slots;
 }

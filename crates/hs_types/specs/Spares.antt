@@ -11,7 +11,7 @@ use Rattle.hs_types.specs.declared.rule.Multi.{Multi}
 use Rattle.hs_types.specs.declared.rule.Rule.{Rule}
 use Rattle.hs_types.specs.declared.rule.Shape.{Shape}
 use Rattle.hs_types.specs.Copies.{copies_of}
-use Rattle.hs_types.specs.Lists.{has, Apart}
+use Rattle.hs_expr.specs.Lists.{has, Apart}
 use Rattle.hs_types.specs.Metamodel.{Conforms}
 use Rattle.hs_types.specs.Pattern.{is_kind, shape_of}
 use Rattle.hs_types.specs.PlainMatch.{image, Extends, kernel_of}

@@ -11,7 +11,7 @@ use Rattle.hs_types.specs.declared.graph.Slot.{Slot}
 use Rattle.hs_types.specs.declared.meta.Metamodel.{Metamodel}
 use Rattle.hs_types.specs.declared.rule.SlotKind.{SlotKind}
 use Rattle.hs_types.specs.declared.rule.SlotKind.TheVariants.{Attribute, Link, Container}
-use Rattle.hs_types.specs.Lists.{has, same_text, Differ, EachPair, Rise}
+use Rattle.hs_expr.specs.Lists.{has, same_text, Differ, EachPair, Rise}
 use Rattle.hs_types.specs.Metamodel.{Conforms, IsConcrete, attributes_of, features_of, fits, target_of}
 
 -- What stands at a number.

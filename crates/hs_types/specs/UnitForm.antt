@@ -23,10 +23,10 @@ use Rattle.hs_types.specs.declared.unit.Count.{Count}
 use Rattle.hs_types.specs.declared.unit.Count.TheVariants as count
 use Rattle.hs_types.specs.declared.unit.Unit.{Unit as RuleUnit}
 use Rattle.hs_types.specs.Limits.{IsSmallRule, IsSmallUnit}
-use Rattle.hs_types.specs.Lists.{same_text, Differ}
+use Rattle.hs_expr.specs.Lists.{same_text, Differ}
 use Rattle.hs_types.specs.Metamodel.{Conforms, class_at}
 use Rattle.hs_types.specs.RuleForm.{IsRule}
-use Rattle.hs_types.specs.Supertypes.{IsBelow}
+use Rattle.hs_types.specs.Reachability.{Reaches}
 use Rattle.hs_types.specs.Units.{calls_of}
 
 -- The parameter of this name.
@@ -104,7 +104,7 @@ units_called unit = filter_map (λ call. unit_in call.callee) (calls_of unit.bod
 
 -- No unit calls itself, by one step or more.
 abbrev pub AreAcyclic : List RuleUnit → Type 0
-AreAcyclic units = (place : ℕ) → IsBelow (map units_called units) place place → ⊥
+AreAcyclic units = (place : ℕ) → Reaches (map units_called units) place place → ⊥
 
 -- The rules and units of a set over a metamodel. At most 64 of each, no two of one name.
 pub record IsRuleSet (m : Metamodel) (rules : List Rule) (units : List RuleUnit) : Type 0 where

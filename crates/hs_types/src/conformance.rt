@@ -1,18 +1,18 @@
-ghost use Rattle.std.specs.Prelude.{◌≡◌, ◌↔◌, ◌&&◌, IsTrue, Some, None, true, map, nat_lt, if◌then◌else◌, IfOk};
+ghost use Rattle.std.specs.Prelude.{◌≡◌, ◌↔◌, ◌≤◌, ◌&&◌, IsTrue, Some, None, true, length, map, nat_lt, if◌then◌else◌, IfOk};
 ghost use Rattle.std.specs.List.{list_all, position};
 ghost use Rattle.std.specs.Option.{option_copied};
-ghost use Rattle.hs_types.specs.Lists.{same_text};
+ghost use Rattle.hs_expr.specs.Lists.{same_text};
 ghost use Rattle.hs_types.specs.Metamodel.{Conforms, HaveCommon, IsConcrete, classes_are_numbered, supers_are_classes, supers_of, class_at, feature_at};
-ghost use Rattle.hs_types.specs.Supertypes as spec;
+ghost use Rattle.hs_types.specs.Reachability as spec;
 
-use crate::closure::{is_in_row, rows_below};
+use crate::reachability::{is_in_row, reach_rows};
 use crate::{Class, ClassNo, Feature, FeatureNo, Metamodel};
 use hs_expr::{List, Text};
 use std::alloc::{AllocError, Global};
 use std::marker::Model;
 
-/// The most classes of a metamodel: as many as there are class numbers.
-const MOST_CLASSES: usize = 65_536;
+/// How many class numbers there are.
+pub const CLASS_NUMBERS: usize = 65_536;
 
 /// A metamodel with its conformance closed, so that one look tells whether a class conforms to
 /// another. Contracts see it as the plain [`Metamodel`].
@@ -27,13 +27,13 @@ impl Model for Meta {
     ghost use Rattle.std.specs.Prelude.{◌≡◌, ◌≤◌, true, length};
     ghost use Rattle.hs_types.specs.declared.meta.Metamodel.{Metamodel};
     ghost use Rattle.hs_types.specs.Metamodel.{supers_of, supers_are_classes};
-    ghost use Rattle.hs_types.specs.Supertypes as supertypes;
+    ghost use Rattle.hs_types.specs.Reachability as supertypes;
 
     ghost Value = { Metamodel };
 
     ghost view = { λ meta. meta.plain };
 
-    ghost invariant = { λ meta. (supers_are_classes meta.plain ≡ true) × (meta.rows ≡ supertypes.rows (supers_of meta.plain)) × (length meta.plain.classes ≤ 65536) };
+    ghost invariant = { λ meta. (supers_are_classes meta.plain ≡ true) × (meta.rows ≡ supertypes.reach_rows (supers_of meta.plain)) × (length meta.plain.classes ≤ 65536) };
 }
 
 impl Meta {
@@ -43,11 +43,21 @@ impl Meta {
         ensures { IfOk result (λ made. made ≡ (if classes_are_numbered plain && supers_are_classes plain then Some plain else None)) }
     {
         let count = plain.classes.len();
-        if count > MOST_CLASSES || !are_below(plain.classes.as_slice(), count) {
+        if count > CLASS_NUMBERS || !are_below(plain.classes.as_slice(), count) {
             return Ok(None);
         }
         let rows = closed_rows(alloc, plain.classes.as_slice())?;
-        Ok(Some(Meta { plain, rows }))
+        Ok(Some(Meta::from_rows(plain, rows)))
+    }
+
+    /// The metamodel, whose rows say of each class which classes reach it by supertypes.
+    pub fn from_rows(plain: Metamodel, rows: List<List<bool>>) -> Meta
+        requires supers { supers_are_classes plain ≡ true }
+        requires rows { rows ≡ spec.reach_rows (supers_of plain) }
+        requires numbered { length plain.classes ≤ 65536 }
+        ensures { result ≡ plain }
+    {
+        Meta { plain, rows }
     }
 
     /// The metamodel as plain data.
@@ -122,11 +132,11 @@ impl Meta {
         ensures { IsTrue result ↔ Conforms self.now class above }
     {
         let above = usize::from(above);
-        class == above || self.is_below(class, above)
+        class == above || self.reaches(class, above)
     }
 
-    fn is_below(&self, class: usize, above: usize) -> bool
-        ensures { IsTrue result ↔ spec.IsBelow (supers_of self.now) class above }
+    fn reaches(&self, class: usize, above: usize) -> bool
+        ensures { IsTrue result ↔ spec.Reaches (supers_of self.now) class above }
     {
         above < self.plain.classes.len() && is_in_row(self.rows.as_slice(), class, above)
     }
@@ -155,10 +165,10 @@ fn supers_are_below(supers: &[ClassNo], count: usize) -> bool
 
 /// For each class a row that says of every class whether it is below that one.
 fn closed_rows(alloc: Global, classes: &[Class]) -> Result<List<List<bool>>, AllocError>
-    ensures { IfOk result (λ rows. rows ≡ spec.rows (map (λ class. class.supers) classes.now)) }
+    ensures { IfOk result (λ rows. rows ≡ spec.reach_rows (map (λ class. class.supers) classes.now)) }
 {
     let supers = supers_of(alloc, classes)?;
-    rows_below(alloc, supers.as_slice())
+    reach_rows(alloc, supers.as_slice())
 }
 
 /// The numbers of each class's supertypes.

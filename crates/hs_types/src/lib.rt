@@ -7,28 +7,33 @@
 //! the list that holds it.
 #![tactic(auto)]
 
-mod closure;
+mod additions;
 mod conformance;
+mod data_type;
 mod entry;
 mod features;
 mod graph;
+pub mod limits;
 mod lookup;
 mod matching;
 mod meta;
+mod pattern;
 mod plan;
+mod reachability;
 mod request;
 mod rule;
-#[cfg(test)]
-mod tests;
 mod unit;
 
-pub use closure::{is_below, rows_below};
 pub use conformance::Meta;
 pub use entry::{Cause, Entry, ExtensionNames, Gone, MatchNames, Outcome, Tried, What};
 pub use graph::{Edge, EdgeNo, Graph, ListGraph, Object, ObjectNo, Slot};
 pub use matching::{Extension, Match};
 pub use meta::{Class, ClassNo, DataType, Feature, FeatureKind, FeatureNo, Metamodel};
+pub use pattern::{
+    count_left_edges, count_left_nodes, image_of, left_edge, left_node, left_nodes_before,
+};
 pub use plan::{End, MadeEdge, MadeObject, Plan, Write};
+pub use reachability::{reach_rows, reaches};
 pub use request::{Arg, Args, NamedArg, Request};
 pub use rule::{
     Direction, Mark, Multi, Param, ParamKind, Part, PatternEdge, PatternNode, PatternSlot, Rule,

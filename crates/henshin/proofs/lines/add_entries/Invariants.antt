@@ -1,6 +1,7 @@
 use Rattle.std.proofs.Common.{◌≡◌, ◌++◌, map, drop, string_bytes}
 use Rattle.std.specs.List.{enumerate_from}
-use Rattle.henshin.specs.ReportText.{lines_of, entry_data}
+use Rattle.henshin.specs.ReportText.{entry_data}
+use Rattle.hs_json_model.specs.Written.{lines_of}
 use Rattle.henshin.proofs.lines.add_entries.Given as goal
 
 -- the text so far, with the lines of the entries that are left, is the whole

@@ -1,5 +1,6 @@
 use Rattle.std.proofs.Common.{◌≡◌, ◌++◌, map, drop, string_bytes}
-use Rattle.henshin.specs.ReportText.{lines_of, reply_data}
+use Rattle.henshin.specs.ReportText.{reply_data}
+use Rattle.hs_json_model.specs.Written.{lines_of}
 use Rattle.henshin.proofs.lines.add_replies.Given as goal
 
 -- the text so far, with the lines of the replies that are left, is the whole

@@ -1,7 +1,7 @@
 use Rattle.std.proofs.Common.{◌≡◌, map, drop}
 use Rattle.serde_json.specs.Data.{string, no_members}
 use Rattle.serde_json.specs.View.{members_view}
-use Rattle.hs_model.specs.Written.{with_members}
+use Rattle.hs_json_model.specs.Written.{with_members}
 use Rattle.henshin.proofs.lines.outs_value.Given as goal
 
 -- the members so far, with those of the outs that are left, are those of all

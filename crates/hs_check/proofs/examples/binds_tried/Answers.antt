@@ -4,7 +4,7 @@ use Rattle.hs_expr.specs.declared.Kind.TheVariants as sort
 use Rattle.hs_types.specs.declared.rule.Direction.TheVariants.{In, Out}
 use Rattle.hs_types.specs.declared.rule.ParamKind.TheVariants.{Data, Object}
 use Rattle.hs_types.specs.Metamodel.{Conforms, above}
-use Rattle.hs_rules.specs.Samples.{bank}
+use Rattle.hs_faults.specs.Samples.{small_bank}
 use Rattle.hs_check.specs.SetSamples.{parameter}
 use Rattle.hs_check.proofs.examples.binds_tried.Goals as goal
 
@@ -14,7 +14,7 @@ no_int e = cc
 not_given : Out ≡ In → ⊥
 not_given e = cc
 
-client_is_no_account : Conforms bank 0 1 → ⊥
+client_is_no_account : Conforms small_bank 0 1 → ⊥
 client_is_no_account (above a d b s k) = both_ways false refl s
 
 pub returns-clause-not_given : goal.returns-clause-not_given

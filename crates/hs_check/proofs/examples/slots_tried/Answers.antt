@@ -1,6 +1,5 @@
 use Rattle.std.proofs.Common.{refl}
-use Rattle.hs_expr.proofs.Evaluations.{reads}
-use Rattle.hs_check.proofs.Nesting.{nestings}
+use Rattle.hs_expr.proofs.Evaluations.{nestings, reads}
 use Rattle.hs_check.proofs.examples.slots_tried.Goals as goal
 
 pub returns-clause-wheres : goal.returns-clause-wheres

@@ -1,4 +1,4 @@
-use Rattle.hs_check.proofs.FormedSet.{sets_formed}
+use Rattle.hs_check.proofs.SetForms.{sets_formed}
 use Rattle.hs_check.proofs.laws.sets_are_formed.Goals as goal
 
 pub returns : goal.returns

@@ -1,6 +1,6 @@
 use Rattle.std.proofs.Common.{ℕ, List, ◌≡◌, ◌++◌, drop, map}
 use Rattle.hs_text.specs.declared.syntax.Definition.{Definition}
-use Rattle.hs_rules.specs.UnitFaults.{rules_of}
+use Rattle.hs_faults.specs.UnitFaults.{rules_of}
 use Rattle.hs_check.proofs.units.rule_names.Given as goal
 
 abbrev pub invariant-loop-definition : goal.invariant-loop-definition

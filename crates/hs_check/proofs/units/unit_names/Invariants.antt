@@ -1,6 +1,6 @@
 use Rattle.std.proofs.Common.{ℕ, List, ◌≡◌, ◌++◌, drop, map}
 use Rattle.hs_text.specs.declared.syntax.Definition.{Definition}
-use Rattle.hs_rules.specs.UnitFaults.{units_of}
+use Rattle.hs_faults.specs.UnitFaults.{units_of}
 use Rattle.hs_check.proofs.units.unit_names.Given as goal
 
 abbrev pub invariant-loop-definition : goal.invariant-loop-definition

@@ -1,5 +1,5 @@
 use Rattle.std.proofs.Common.{◌≡◌, ◌++◌, drop, map}
-use Rattle.hs_rules.specs.UnitFaults.{units_of}
+use Rattle.hs_faults.specs.UnitFaults.{units_of}
 use Rattle.hs_check.specs.Units.{unit_meant}
 use Rattle.hs_check.proofs.units.units_among.Given as goal
 

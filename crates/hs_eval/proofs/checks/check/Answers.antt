@@ -1,23 +1,21 @@
-use Rattle.std.proofs.Common.{Ok, ap, sym, ◌∙◌}
-use Rattle.hs_eval.proofs.Piles.{end-some, end-told, failure-told, same-pieces}
+use Rattle.std.proofs.Common.{Ok, sym, ap, ◌∙◌}
+use Rattle.hs_expr.specs.NameExprs.{expr_tree}
+use Rattle.hs_expr.proofs.OneTree.{tree-found}
+use Rattle.hs_eval.proofs.Piles.{top-some, top-result, failure-reported}
 use Rattle.hs_eval.proofs.checks.check.Goals as goal
 
-pub unreachable-requires : goal.unreachable-requires
-unreachable-requires g c =
-    let names = g.C.Scope.names c.args.scope.now in
-    let pieces = c.args.names.now.pieces in
-    end-some names pieces c.requires.one
-    (same-pieces names pieces c.as_slice.result.now (sym c.as_slice.ensures) ∙ c.in-Ok.ensures ∙ ap Ok c.in-None.ensures.0)
+pub unwrap-requires : goal.unwrap-requires
+unwrap-requires g c =
+    let expr = c.args.names.now in
+    top-some (g.C.Scope.names c.args.scope.now) expr.pieces c.as_slice.result.now (expr_tree expr) c.in-Ok.stack c.pop.new.self c.pop.result (sym c.as_slice.ensures) (tree-found expr) c.in-Ok.ensures c.pop.ensures
 
-pub returns-in-Some : goal.returns-in-Some
-returns-in-Some g c = λ tree is.
-    let names = g.C.Scope.names c.args.scope.now in
-    let pieces = c.args.names.now.pieces in
-    end-told names pieces tree c.in-Some.operand c.pop.new.self is
-    (same-pieces names pieces c.as_slice.result.now (sym c.as_slice.ensures) ∙ c.in-Ok.ensures ∙ ap Ok c.in-Some.ensures)
-    ∙ ap Ok (sym c.release.ensures)
+pub returns-in-Ok : goal.returns-in-Ok
+returns-in-Ok g c =
+    let expr = c.args.names.now in
+    top-result (g.C.Scope.names c.args.scope.now) expr.pieces c.as_slice.result.now (expr_tree expr) c.in-Ok.stack c.pop.new.self c.pop.result c.unwrap.result (sym c.as_slice.ensures) (tree-found expr) c.in-Ok.ensures c.pop.ensures c.unwrap.ensures
+    ∙ ap Ok (sym c.into_checked.ensures)
 
 pub returns-in-Err : goal.returns-in-Err
-returns-in-Err g c = λ tree is.
-    let names = g.C.Scope.names c.args.scope.now in
-    failure-told names c.args.names.now.pieces c.as_slice.result.now tree c.in-Err.failure (sym c.as_slice.ensures) is c.in-Err.ensures
+returns-in-Err g c =
+    let expr = c.args.names.now in
+    failure-reported (g.C.Scope.names c.args.scope.now) expr.pieces c.as_slice.result.now (expr_tree expr) c.in-Err.failure (sym c.as_slice.ensures) (tree-found expr) c.in-Err.ensures

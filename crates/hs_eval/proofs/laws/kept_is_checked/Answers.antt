@@ -1,5 +1,5 @@
 use Rattle.hs_eval.specs.Checking.{checked}
-use Rattle.hs_eval.proofs.Kept.{kept-checked}
+use Rattle.hs_eval.proofs.CheckedOf.{kept-checked}
 use Rattle.hs_eval.proofs.laws.kept_is_checked.Goals as goal
 
 pub returns : goal.returns

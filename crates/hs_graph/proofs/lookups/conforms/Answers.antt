@@ -1,4 +1,4 @@
-use Rattle.hs_graph.proofs.Conformance.{conforms_test}
+use Rattle.hs_types.proofs.Conforming.{conforms_test}
 use Rattle.hs_graph.proofs.lookups.conforms.Goals as goal
 
 pub returns : goal.returns

@@ -1,7 +1,7 @@
 use Rattle.std.proofs.Common.{◌∙◌, ap, string_bytes, Some, cond}
 use Rattle.std.specs.HashMap.{get_by_text}
 use Rattle.std.proofs.lemmas.Map.Text.{hash_map_updates_text}
-use Rattle.hs_types.specs.Lists.{same_text}
+use Rattle.hs_expr.specs.Lists.{same_text}
 use Rattle.hs_graph.proofs.numbers.add_name.Goals as goal
 
 pub returns-clause-added : goal.returns-clause-added

@@ -10,5 +10,5 @@ abbrev pub invariant-loop-i : goal.invariant-loop-i
 invariant-loop-i l = record {
   faults : verdict (each_from (spec.name_faults_at l.objects) l.i (drop l.i l.objects)) ≡ verdict (spec.name_faults l.objects);
   known : (name : List ℕ) → get_by_text l.numbers name ≡ lookups.place_of (take l.i (lookups.object_names l.objects)) name;
-  next : max l.next_name (meaning.next_name (drop l.i l.objects)) ≡ meaning.next_name l.objects;
+  next : max l.next_name (meaning.next_name_after (lookups.object_names (drop l.i l.objects))) ≡ meaning.next_name_after (lookups.object_names l.objects);
 }

@@ -12,7 +12,7 @@ use Rattle.hs_types.specs.Metamodel.{fits, itself}
 use Rattle.hs_types.specs.Pattern.{shape_of}
 use Rattle.hs_types.specs.PlainMatch.{Extends}
 use Rattle.hs_laws.specs.Bank.{add, args_of, balance, copy, link, model, number, one_account, owned_by_another, pair_with, reset, set_balance}
-use Rattle.hs_laws.proofs.Lists.{All-one}
+use Rattle.hs_expr.proofs.Lists.{All-one}
 use Rattle.hs_laws.proofs.examples.conditions.Goals as goal
 
 pub returns-clause-fits : goal.returns-clause-fits

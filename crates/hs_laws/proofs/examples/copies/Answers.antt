@@ -9,12 +9,12 @@ use Rattle.hs_types.specs.declared.matching.Extension.{Extension}
 use Rattle.hs_types.specs.declared.rule.Mark.TheVariants.{Drop, Keep}
 use Rattle.hs_types.specs.declared.rule.Multi.{Multi}
 use Rattle.hs_types.specs.Copies.{AreCopies, Copy, IsCopy, SparesCopy}
-use Rattle.hs_types.specs.Lists.{Apart}
+use Rattle.hs_expr.specs.Lists.{Apart}
 use Rattle.hs_types.specs.Metamodel.{itself}
 use Rattle.hs_types.specs.PlainMatch.{Extends}
 use Rattle.hs_types.specs.TypedGraph.{edge_at}
 use Rattle.hs_laws.specs.Bank.{arrow, copy, kernel, link, model, node, one_account, purge, purge_args, three_with}
-use Rattle.hs_laws.proofs.Lists.{All-one, All-two, below_differs}
+use Rattle.hs_expr.proofs.Lists.{All-one, All-two, below_differs}
 use Rattle.hs_laws.proofs.examples.copies.Goals as goal
 
 abbrev client_of : Multi

@@ -4,11 +4,11 @@ use Rattle.std.proofs.lemmas.Bool.{both_ways, cases_Bool, eqb-true}
 use Rattle.hs_types.specs.Arguments.{Follows}
 use Rattle.hs_types.specs.declared.graph.Graph.{Graph}
 use Rattle.hs_types.specs.Dangling.{NoneDangle}
-use Rattle.hs_types.specs.Lists.{beside}
+use Rattle.hs_expr.specs.Lists.{beside}
 use Rattle.hs_types.specs.Pattern.{is_drop, left_nodes}
 use Rattle.hs_types.specs.TypedGraph.{name_at}
 use Rattle.hs_laws.specs.Bank.{args_of, drop_client, link, object_arg, pair_with}
-use Rattle.hs_laws.proofs.Lists.{below_differs}
+use Rattle.hs_expr.proofs.Lists.{below_differs}
 use Rattle.hs_laws.proofs.examples.dangling.Goals as goal
 
 pub returns-clause-dangles : goal.returns-clause-dangles

@@ -15,7 +15,7 @@ use Rattle.hs_types.specs.declared.rule.SetItem.{SetItem}
 use Rattle.hs_types.specs.Conditions.{env_of}
 use Rattle.hs_types.specs.Metamodel.{fits, itself}
 use Rattle.hs_types.specs.ValidMatch.{IsValid}
-use Rattle.hs_laws.proofs.Lists.{All-one, below_differs}
+use Rattle.hs_expr.proofs.Lists.{All-one, below_differs}
 use Rattle.hs_types.specs.declared.graph.Graph.{Graph}
 use Rattle.hs_types.specs.declared.unit.RuleSet.{RuleSet}
 use Rattle.hs_types.specs.Journal.{Asks, IsLawfulEntry, IsNumbered, after_entry, meta_of, rank, tries_in}

@@ -12,7 +12,7 @@ use Rattle.hs_types.specs.Conditions.{env_of}
 use Rattle.hs_types.specs.Metamodel.{HaveCommon, IsConcrete, fits, itself}
 use Rattle.hs_types.specs.RuleForm.{NodeFits, SetFits, scope_of}
 use Rattle.hs_laws.specs.Bank.{balance, model, node, number, set_balance, transfer, transfer_args, two_accounts}
-use Rattle.hs_laws.proofs.Lists.{All-one, All-two}
+use Rattle.hs_expr.proofs.Lists.{All-one, All-two}
 use Rattle.hs_laws.proofs.examples.transfers.Goals as goal
 
 pub returns-clause-after : goal.returns-clause-after

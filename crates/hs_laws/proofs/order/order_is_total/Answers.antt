@@ -1,4 +1,5 @@
-use Rattle.hs_laws.proofs.Earlier.{IsEarlier-appended, IsEarlier-from_appended, IsEarlier-not_itself, IsEarlier-total, IsEarlier-trans}
+use Rattle.hs_types.proofs.Orders.{IsEarlier-appended, IsEarlier-from_appended}
+use Rattle.hs_laws.proofs.Earlier.{IsEarlier-not_itself, IsEarlier-total, IsEarlier-trans}
 use Rattle.hs_laws.proofs.order.order_is_total.Goals as goal
 
 pub returns-clause-irreflexive : goal.returns-clause-irreflexive

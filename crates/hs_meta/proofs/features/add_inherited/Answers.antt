@@ -1,7 +1,7 @@
 use Rattle.std.proofs.Common.{◌≡◌, ◌++◌, ◌∙◌, [], set, get_or, ap, sym, arith}
 use Rattle.std.proofs.lemmas.List.{get_or_read}
 use Rattle.std.specs.List.{flat_map}
-use Rattle.hs_types.specs.Lists.{each_once}
+use Rattle.hs_expr.specs.Lists.{each_once}
 use Rattle.hs_meta.proofs.Ranked.{found_passed, found_put}
 use Rattle.hs_meta.proofs.features.add_inherited.Goals as goal
 use Rattle.hs_meta.proofs.features.add_inherited.Goals.{then-own_rank-rank+in_ok-put_inherited_first, else-own_rank-rank}

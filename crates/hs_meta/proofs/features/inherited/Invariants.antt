@@ -1,6 +1,6 @@
 use Rattle.std.proofs.Common.{◌≡◌, drop, get_or, []}
 use Rattle.std.specs.List.{flat_map}
-use Rattle.hs_types.specs.Lists.{each_once}
+use Rattle.hs_expr.specs.Lists.{each_once}
 use Rattle.hs_meta.specs.Inheriting.{with_further}
 use Rattle.hs_meta.proofs.features.inherited.Given as goal
 

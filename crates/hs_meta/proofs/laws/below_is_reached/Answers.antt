@@ -1,5 +1,5 @@
-use Rattle.hs_types.proofs.Below.{says_below}
+use Rattle.hs_types.proofs.Paths.{says_reaches}
 use Rattle.hs_meta.proofs.laws.below_is_reached.Goals as goal
 
 pub returns : goal.returns
-returns c = says_below
+returns c = says_reaches

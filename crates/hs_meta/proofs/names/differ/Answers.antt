@@ -4,7 +4,7 @@ use Rattle.std.proofs.lemmas.Map.Text.{btree_set_updates_text}
 use Rattle.std.specs.BTreeSet.{contains_text}
 use Rattle.std.specs.List.{list_any}
 use Rattle.std.specs.Vec.Iter.{into_iter_items}
-use Rattle.hs_types.specs.Lists.{same_text}
+use Rattle.hs_expr.specs.Lists.{same_text}
 use Rattle.hs_meta.specs.Names.{differ}
 use Rattle.hs_meta.proofs.Repeats.{among_more, differ_more, differ_not}
 use Rattle.hs_meta.proofs.names.differ.Goals as goal

@@ -1,7 +1,7 @@
 use Rattle.std.proofs.Common.{◌≡◌, ◌∙◌, ap, sym, cond, is_some, Some, string_bytes}
 use Rattle.std.proofs.lemmas.Map.Text.{btree_map_updates_text}
 use Rattle.std.specs.BTreeMap.{get_by_text}
-use Rattle.hs_types.specs.Lists.{same_text}
+use Rattle.hs_expr.specs.Lists.{same_text}
 use Rattle.hs_meta.proofs.Places.{place_kept, place_new}
 use Rattle.hs_meta.proofs.numbers.add_class.Goals as goal
 

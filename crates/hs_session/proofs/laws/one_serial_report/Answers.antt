@@ -4,7 +4,7 @@ use Rattle.hs_types.specs.declared.meta.Metamodel.{Metamodel}
 use Rattle.hs_types.specs.declared.rule.Rule.{Rule}
 use Rattle.hs_types.specs.Journal.{meta_of}
 use Rattle.hs_types.specs.ValidMatch.{IsFirst}
-use Rattle.hs_finding.specs.FirstMatch.{no_args}
+use Rattle.hs_types.specs.Arguments.{no_args}
 use Rattle.hs_session.specs.Runnable.{IsRunnable}
 use Rattle.hs_session.proofs.Exists.{one_exists}
 use Rattle.hs_session.proofs.Unique.{one_report}
@@ -18,7 +18,8 @@ returns-clause-exists c =
     let runs : IsRunnable (meta_of rules) c.args.graph.now.graph rule = subst (λ (r : Option Rule). IsSomeAnd r (IsRunnable (meta_of rules) c.args.graph.now.graph)) c.rule_at.ensures c.requires.runnable in
     let answer = c.is_applicable.ensures in
     one_exists rules c.args.graph.now.graph c.args.request.now c.args.called rule answer.0 c.requires.typed c.requires.called c.rule_at.ensures runs c.requires.no_arguments
+    c.additions_only_make.ensures
     (subst (λ (m : Metamodel). IsFirst m c.args.graph.now.graph rule no_args answer.0) model answer.1)
 
 pub returns-clause-one : goal.returns-clause-one
-returns-clause-one c = λ a b sa sb ma mb. one_report c.args.rules.now c.args.graph.now.graph c.args.request.now a b c.requires.typed sa sb ma mb
+returns-clause-one c = λ a b sa sb ma mb. one_report c.least_is_unique.ensures.least c.args.rules.now c.args.graph.now.graph c.args.request.now a b c.requires.typed sa sb ma mb

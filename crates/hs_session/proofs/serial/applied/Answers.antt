@@ -1,8 +1,9 @@
-use Rattle.hs_session.proofs.Attempts.{after_applied, applied_asks, fits_here, within_numbers}
+use Rattle.hs_types.specs.Arguments.{no_args}
+use Rattle.hs_session.proofs.Attempts.{after_applied, applied_asks, within_numbers}
 use Rattle.hs_session.proofs.serial.applied.Goals as goal
 
 pub install-requires-clause-fits : goal.install-requires-clause-fits
-install-requires-clause-fits c = (c.args.meta.now, fits_here c.args.meta.now c.args.graph c.args.rule.now c.args.found c.in_ok-plan.plan (c.in_ok-plan.ensures.plan c.args.graph) c.requires.model c.requires.typed c.requires.runnable c.requires.least.valid)
+install-requires-clause-fits c = (c.args.meta.now, rw (c.in_ok-plan.ensures.plan c.args.graph) (c.plans_fit.ensures c.args.meta.now c.args.graph c.args.rule.now no_args c.args.found c.requires.model c.requires.runnable.well_formed c.requires.typed c.requires.least.valid))
 
 pub returns-clause-lawful : goal.returns-clause-lawful
 returns-clause-lawful c =

@@ -8,4 +8,4 @@ pub returns-clause-text_is_right : goal.returns-clause-text_is_right
 returns-clause-text_is_right c = λ source ts ds t x w. no-wrong source ts t (text-right source ts ds x) w
 
 pub returns-clause-unfinished_is_right : goal.returns-clause-unfinished_is_right
-returns-clause-unfinished_is_right c = λ source ts t u w. no-wrong source ts t u.right w
+returns-clause-unfinished_is_right c = λ source ts t u w. no-wrong source ts t u.begins w

@@ -1,9 +1,9 @@
 use Rattle.std.proofs.Common.{◌-◌, length}
-use Rattle.hs_tokens.proofs.Places.{ReadSoFar}
+use Rattle.hs_tokens.proofs.Positions.{ReadSoFar}
 use Rattle.hs_tokens.proofs.scan.tokenize.Given as goal
 
-abbrev pub invariant-loop-place : goal.invariant-loop-place
-invariant-loop-place l = ReadSoFar l.chars l.place l.tokens.items
+abbrev pub invariant-loop-position : goal.invariant-loop-position
+invariant-loop-position l = ReadSoFar l.chars l.position l.tokens.items
 
-abbrev pub decreases-loop-place : goal.decreases-loop-place
-decreases-loop-place l = length l.chars - l.place.index
+abbrev pub decreases-loop-position : goal.decreases-loop-position
+decreases-loop-position l = length l.chars - l.position.index

@@ -1,0 +1,82 @@
+-- What a rule without faults has: few of everything, and nodes that its parts find by name.
+use Rattle.std.proofs.Common.{ℕ, suc, ◌+◌, ◌≤◌, ◌≡◌, List, [], ◌∷◌, true, false, nat_le, length, map, Option, Some, refl, ap, sym, ◌∙◌, subst, arith, length-append}
+use Rattle.std.proofs.lemmas.Bool.{and_parts, leb-true}
+use Rattle.std.proofs.lemmas.List.{length-map}
+use Rattle.std.specs.List.{filter, list_all}
+use Rattle.std.specs.Option.{unwrap_or}
+use Rattle.hs_text.specs.declared.syntax.Rule.{Rule}
+use Rattle.hs_types.specs.declared.meta.Metamodel.{Metamodel}
+use Rattle.hs_faults.specs.declared.nodes.DeclaredNode.{DeclaredNode}
+use Rattle.hs_faults.specs.declared.nodes.BlockId.{BlockId}
+use Rattle.hs_faults.specs.declared.nodes.BlockId.TheVariants as home
+use Rattle.hs_faults.specs.Depths.{is_flat}
+use Rattle.hs_faults.specs.Sizes.{blocks, has_few, has_few_alike, is_edge_of, is_multi, is_pattern, sizes_fit}
+use Rattle.hs_faults.specs.Nodes.{declared_nodes}
+use Rattle.hs_faults.specs.ParamNodes.{is_kernel}
+use Rattle.hs_faults.specs.Statements.{Statement, statements}
+use Rattle.hs_faults.specs.StatementFaults.{same_block}
+use Rattle.hs_check.specs.Elements.{node_meant, nodes_in}
+use Rattle.hs_check.proofs.Visibility.{AllClassed, Opens, opens_block, opens_kernel}
+use Rattle.hs_check.proofs.NoFaults.{Clean}
+
+-- A rule is of these sizes.
+pub record IsFew (rule : Rule) : Type 0 where
+  pub params : length rule.params ≤ 16
+  pub patterns : length (filter is_pattern (blocks rule.items)) ≤ 8
+  pub multis : length (filter is_multi (blocks rule.items)) ≤ 4
+  pub kernel : has_few (declared_nodes rule.items) (statements rule.items) home.Kernel ≡ true
+  pub each_block : list_all (has_few (declared_nodes rule.items) (statements rule.items)) (blocks rule.items) ≡ true
+  pub alike : list_all (has_few_alike (statements rule.items)) (statements rule.items) ≡ true
+
+pub is_few : (m : Metamodel) (rule : Rule) → Clean m rule → IsFew rule
+is_few m rule clean =
+    let all = and_parts (sizes_fit rule.params (blocks rule.items) (declared_nodes rule.items) (statements rule.items)) (list_all (is_flat m rule.params (declared_nodes rule.items)) (statements rule.items)) clean.limits in
+    let a = and_parts (nat_le (length rule.params) 16) _ all.0 in
+    let b = and_parts (nat_le (length (filter is_pattern (blocks rule.items))) 8) _ a.1 in
+    let c = and_parts (nat_le (length (filter is_multi (blocks rule.items))) 4) _ b.1 in
+    let d = and_parts (has_few (declared_nodes rule.items) (statements rule.items) home.Kernel) _ c.1 in
+    let e = and_parts (list_all (has_few (declared_nodes rule.items) (statements rule.items)) (blocks rule.items)) (list_all (has_few_alike (statements rule.items)) (statements rule.items)) d.1 in
+    record {
+      params = leb-true (length rule.params) 16 a.0;
+      patterns = leb-true (length (filter is_pattern (blocks rule.items))) 8 b.0;
+      multis = leb-true (length (filter is_multi (blocks rule.items))) 4 c.0;
+      kernel = d.0;
+      each_block = e.0;
+      alike = e.1;
+    }
+
+-- A part has few nodes and edges.
+pub record IsFewIn (ds : List DeclaredNode) (said : List Statement) (part : BlockId) : Type 0 where
+  pub nodes : length (filter (λ (node : DeclaredNode). same_block part node.block) ds) ≤ 12
+  pub edges : length (filter (is_edge_of part) said) ≤ 16
+
+pub few_in : (ds : List DeclaredNode) (said : List Statement) (part : BlockId) → has_few ds said part ≡ true → IsFewIn ds said part
+few_in ds said part e =
+    let parts = and_parts (nat_le (length (filter (λ (node : DeclaredNode). same_block part node.block) ds)) 12) (nat_le (length (filter (is_edge_of part) said)) 16) e in
+    record { nodes = leb-true _ 12 parts.0; edges = leb-true _ 16 parts.1 }
+
+pub few_nodes : (m : Metamodel) (ds : List DeclaredNode) (said : List Statement) (part : BlockId) → has_few ds said part ≡ true → length (nodes_in m ds part) ≤ 12
+few_nodes m ds said part e = subst (λ n. n ≤ 12) (sym (length-map (filter (λ (node : DeclaredNode). same_block part node.block) ds) (node_meant m))) (few_in ds said part e).nodes
+
+all_classed : (m : Metamodel) (rule : Rule) → Clean m rule → AllClassed m (declared_nodes rule.items)
+all_classed m rule clean k d at =
+    let known = clean.nodes_known k d at in
+    known.named ∙ ap (λ (n : ℕ). Some n) (sym (ap (λ (o : Option ℕ). unwrap_or o 0) known.named))
+
+pub kernel_opens : (m : Metamodel) (rule : Rule) → Clean m rule → Opens m (declared_nodes rule.items) home.Kernel []
+kernel_opens m rule clean =
+    let few = few_nodes m (declared_nodes rule.items) (statements rule.items) home.Kernel (is_few m rule clean).kernel in
+    opens_kernel m (declared_nodes rule.items) (all_classed m rule clean) (omega arith)
+
+-- So many nodes may a block name.
+pub few_open : (m : Metamodel) (rule : Rule) → Clean m rule → (part : BlockId) → has_few (declared_nodes rule.items) (statements rule.items) part ≡ true → length (nodes_in m (declared_nodes rule.items) home.Kernel) + length (nodes_in m (declared_nodes rule.items) part) ≤ 65536
+few_open m rule clean part few_here =
+    let kernel = few_nodes m (declared_nodes rule.items) (statements rule.items) home.Kernel (is_few m rule clean).kernel in
+    let own = few_nodes m (declared_nodes rule.items) (statements rule.items) part few_here in
+    omega arith
+
+pub block_opens : (m : Metamodel) (rule : Rule) → Clean m rule → (part : BlockId) → is_kernel part ≡ false → has_few (declared_nodes rule.items) (statements rule.items) part ≡ true → Opens m (declared_nodes rule.items) part (nodes_in m (declared_nodes rule.items) home.Kernel)
+block_opens m rule clean part block few_here =
+    let few = few_open m rule clean part few_here in
+    opens_block m (declared_nodes rule.items) clean.nodes_new (all_classed m rule clean) part block
+    (subst (λ n. n ≤ 65536) (sym (length-append (nodes_in m (declared_nodes rule.items) home.Kernel) (nodes_in m (declared_nodes rule.items) part))) few)

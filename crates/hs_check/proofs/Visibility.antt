@@ -1,0 +1,151 @@
+-- The nodes that a part of a rule may name, by their numbers there.
+use Rattle.std.proofs.Common.{ℕ, ◌<◌, ◌≤◌, ◌≡◌, ◌⊎◌, ◌++◌, List, [], Bool, true, false, cond, nat_lt, length, slice_get, Option, Some, None, refl, ap, sym, ◌∙◌, inl, inr, arith}
+use Rattle.std.proofs.lemmas.Bool.{cases_Bool, cond-true, false≢true, lt-ltb, or_cases}
+use Rattle.std.proofs.lemmas.List.Folds.{find-append, find_at}
+use Rattle.std.proofs.lemmas.Option.{slice_get_within}
+use Rattle.std.specs.List.{filter_map, find, position, position_or_len}
+use Rattle.std.specs.Option.{option_and_then, option_or}
+use Rattle.hs_types.specs.declared.meta.Metamodel.{Metamodel}
+use Rattle.hs_types.specs.declared.rule.PatternNode.{PatternNode}
+use Rattle.hs_expr.specs.Lists.{same_text}
+use Rattle.hs_faults.specs.declared.nodes.DeclaredNode.{DeclaredNode}
+use Rattle.hs_faults.specs.declared.nodes.BlockId.{BlockId}
+use Rattle.hs_faults.specs.declared.nodes.BlockId.TheVariants as home
+use Rattle.hs_faults.specs.Names.{class_number, node_named, as_number}
+use Rattle.hs_faults.specs.ParamNodes.{is_kernel}
+use Rattle.hs_faults.specs.StatementFaults.{visible_node, same_block}
+use Rattle.hs_check.specs.Elements.{node_found, node_meant, nodes_in}
+use Rattle.hs_check.specs.Parameters.{class_meant}
+use Rattle.hs_check.proofs.Uniqueness.{HaveOwn, only_one, opened}
+use Rattle.hs_check.proofs.Filters.{All-filter_map, filtered, find-filter_map, find_here, found_behind, passes, where_passes}
+use Rattle.hs_expr.proofs.Items.{find_none}
+
+-- The test that a node of a pattern has this name.
+abbrev pub called : List ℕ → PatternNode → Bool
+called name node = same_text name node.name
+
+abbrev pub node_in : Metamodel → BlockId → DeclaredNode → Option PatternNode
+node_in m part = where_passes (λ (node : DeclaredNode). same_block part node.block) (node_meant m)
+
+pub nodes_in-picked : (m : Metamodel) (ds : List DeclaredNode) (part : BlockId) → nodes_in m ds part ≡ filter_map (node_in m part) ds
+nodes_in-picked m ds part = filtered (λ (node : DeclaredNode). same_block part node.block) (node_meant m) ds
+
+-- What a node of this part is made of.
+pub node_made : (m : Metamodel) (part : BlockId) (d : DeclaredNode) (p : PatternNode) → node_in m part d ≡ Some p → (same_block part d.block ≡ true) × (node_meant m d ≡ p)
+node_made m part d p e = passes (λ (node : DeclaredNode). same_block part node.block) (node_meant m) d p e
+
+called_same : (m : Metamodel) (part : BlockId) (name : List ℕ) (d : DeclaredNode) (p : PatternNode) → node_in m part d ≡ Some p → called name p ≡ same_text name d.name.text
+called_same m part name d p e = ap (called name) (sym (node_made m part d p e).1)
+
+passing : {A : Type 0} (b : Bool) (x : A) → b ≡ true → cond b (Some x) None ≡ Some x
+passing true x e = refl
+passing false x e = absurd (false≢true e)
+
+-- A node is found in its own part.
+pub found_in : (m : Metamodel) (ds : List DeclaredNode) (part : BlockId) (name : List ℕ) (d : DeclaredNode) → node_named ds name ≡ Some d → same_block part d.block ≡ true → find (called name) (nodes_in m ds part) ≡ Some (node_meant m d)
+found_in m ds part name d found here =
+    ap (find (called name)) (nodes_in-picked m ds part)
+    ∙ find-filter_map (λ (node : DeclaredNode). same_text name node.name.text) (called name) (node_in m part) ds d (node_meant m d) (called_same m part name) found
+    (passing (same_block part d.block) (node_meant m d) here)
+
+-- A node is not found in another part.
+not_in : (m : Metamodel) (ds : List DeclaredNode) → HaveOwn (λ (node : DeclaredNode). node.name) ds → (part : BlockId) (name : List ℕ) (d : DeclaredNode) → node_named ds name ≡ Some d → same_block part d.block ≡ false → find (called name) (nodes_in m ds part) ≡ None
+not_in m ds own part name d found away =
+    ap (find (called name)) (nodes_in-picked m ds part)
+    ∙ find_none (called name) (filter_map (node_in m part) ds) (All-filter_map (λ (p : PatternNode). called name p ≡ false) (node_in m part) ds fails)
+  where
+    fails : (k : ℕ) (e : DeclaredNode) (p : PatternNode) → slice_get ds k ≡ Some e → node_in m part e ≡ Some p → called name p ≡ false
+    fails k e p at made = elim (cases_Bool (called name p)) [
+      | inl yes_it ↦
+          let same = only_one (λ (node : DeclaredNode). node.name) ds own name d e k found at (sym (called_same m part name e p made) ∙ yes_it) in
+          absurd (false≢true (sym away ∙ ap (λ (n : DeclaredNode). same_block part n.block) same ∙ (node_made m part e p made).0))
+      | inr not_it ↦ not_it
+    ]
+
+-- ---- numbers
+
+pub position_there : {A : Type 0} (p : A → Bool) (xs : List A) → position_or_len p xs < length xs → position p xs ≡ Some (position_or_len p xs)
+position_there p xs low = cond-true (nat_lt (position_or_len p xs) (length xs)) (Some (position_or_len p xs)) None (lt-ltb (position_or_len p xs) (length xs) low)
+
+pub number_there : (n : ℕ) → n < 65536 → as_number n ≡ Some n
+number_there n low = cond-true (nat_lt n 65536) (Some n) None (lt-ltb n 65536 low)
+
+-- What a name finds among few stands at the number of the name.
+pub place_there : {A : Type 0} (p : A → Bool) (xs : List A) (x : A) → length xs ≤ 65536 → find p xs ≡ Some x → (option_and_then as_number (position p xs) ≡ Some (position_or_len p xs)) × (slice_get xs (position_or_len p xs) ≡ Some x)
+place_there p xs x few found =
+    let at = sym (find_at p xs) ∙ found in
+    let low = slice_get_within xs (position_or_len p xs) x at in
+    (ap (option_and_then as_number) (position_there p xs low) ∙ number_there (position_or_len p xs) (omega arith), at)
+
+-- Each node has a class that is there.
+abbrev pub AllClassed : Metamodel → List DeclaredNode → Type 0
+AllClassed m ds = (k : ℕ) (d : DeclaredNode) → slice_get ds k ≡ Some d → class_number m d.class.text ≡ Some (class_meant m d.class.text)
+
+-- The node that a name finds, by its number among these.
+pub record Spot (m : Metamodel) (nodes : List PatternNode) (name : List ℕ) (d : DeclaredNode) : Type 0 where
+  pub number_is : node_found nodes name ≡ Some (position_or_len (called name) nodes)
+  pub at : slice_get nodes (position_or_len (called name) nodes) ≡ Some (node_meant m d)
+  pub class : class_number m d.class.text ≡ Some (class_meant m d.class.text)
+
+-- Each node that this part may name is found among its nodes, which stand behind these, and its own are not among these.
+pub record Opens (m : Metamodel) (ds : List DeclaredNode) (part : BlockId) (before : List PatternNode) : Type 0 where
+  pub found : (name : List ℕ) (d : DeclaredNode) → visible_node ds part name ≡ Some d → Spot m (before ++ nodes_in m ds part) name d
+  pub own : (name : List ℕ) (d : DeclaredNode) → visible_node ds part name ≡ Some d → same_block part d.block ≡ true → length before ≤ position_or_len (called name) (before ++ nodes_in m ds part)
+
+pub kernel_home : (h : BlockId) → same_block home.Kernel h ≡ is_kernel h
+kernel_home home.Kernel = refl
+kernel_home (home.Pattern i) = refl
+kernel_home (home.Multi i) = refl
+
+homes_alike : (g h : BlockId) → same_block g h ≡ true → is_kernel h ≡ is_kernel g
+homes_alike home.Kernel home.Kernel e = refl
+homes_alike home.Kernel (home.Pattern j) e = cc
+homes_alike home.Kernel (home.Multi j) e = cc
+homes_alike (home.Pattern i) home.Kernel e = cc
+homes_alike (home.Pattern i) (home.Pattern j) e = refl
+homes_alike (home.Pattern i) (home.Multi j) e = refl
+homes_alike (home.Multi i) home.Kernel e = cc
+homes_alike (home.Multi i) (home.Pattern j) e = refl
+homes_alike (home.Multi i) (home.Multi j) e = refl
+
+spot : (m : Metamodel) (ds : List DeclaredNode) → AllClassed m ds → (nodes : List PatternNode) → length nodes ≤ 65536 → (name : List ℕ) (d : DeclaredNode) → node_named ds name ≡ Some d → find (called name) nodes ≡ Some (node_meant m d) → Spot m nodes name d
+spot m ds all nodes few name d named found =
+    let here = find_here (λ (node : DeclaredNode). same_text name node.name.text) ds d named in
+    let there = place_there (called name) nodes (node_meant m d) few found in
+    record { number_is = there.0; at = there.1; class = all here.0 d here.1 }
+
+pub opens_kernel : (m : Metamodel) (ds : List DeclaredNode) → AllClassed m ds → length (nodes_in m ds home.Kernel) ≤ 65536 → Opens m ds home.Kernel []
+opens_kernel m ds all few = record { found = there; own = λ name d e here. omega arith }
+  where
+    there : (name : List ℕ) (d : DeclaredNode) → visible_node ds home.Kernel name ≡ Some d → Spot m (nodes_in m ds home.Kernel) name d
+    there name d e =
+        let is = opened ds home.Kernel name d e in
+        let here : same_block home.Kernel d.block ≡ true = elim (or_cases (is_kernel d.block) (same_block home.Kernel d.block) is.1) [
+          | inl kernel ↦ kernel_home d.block ∙ kernel
+          | inr same ↦ same
+        ] in
+        spot m ds all (nodes_in m ds home.Kernel) few name d is.0 (found_in m ds home.Kernel name d is.0 here)
+
+pub opens_block : (m : Metamodel) (ds : List DeclaredNode) → HaveOwn (λ (node : DeclaredNode). node.name) ds → AllClassed m ds → (part : BlockId) → is_kernel part ≡ false → length (nodes_in m ds home.Kernel ++ nodes_in m ds part) ≤ 65536 → Opens m ds part (nodes_in m ds home.Kernel)
+opens_block m ds own all part block few = record { found = there; own = λ name d e here. found_behind (called name) (nodes_in m ds home.Kernel) (nodes_in m ds part) (not_in m ds own home.Kernel name d (opened ds part name d e).0 (away d here)) }
+  where
+    away : (d : DeclaredNode) → same_block part d.block ≡ true → same_block home.Kernel d.block ≡ false
+    away d here = kernel_home d.block ∙ homes_alike part d.block here ∙ block
+
+    joined : (name : List ℕ) (d : DeclaredNode) → node_named ds name ≡ Some d → (is_kernel d.block ≡ true) ⊎ (same_block part d.block ≡ true) → find (called name) (nodes_in m ds home.Kernel ++ nodes_in m ds part) ≡ Some (node_meant m d)
+    joined name d named (inl kernel) =
+        find-append (called name) (nodes_in m ds home.Kernel) (nodes_in m ds part)
+        ∙ ap (λ (o : Option PatternNode). option_or o (find (called name) (nodes_in m ds part))) (found_in m ds home.Kernel name d named (kernel_home d.block ∙ kernel))
+    joined name d named (inr here) =
+        find-append (called name) (nodes_in m ds home.Kernel) (nodes_in m ds part)
+        ∙ ap (λ (o : Option PatternNode). option_or o (find (called name) (nodes_in m ds part))) (not_in m ds own home.Kernel name d named (away d here))
+        ∙ found_in m ds part name d named here
+
+    there : (name : List ℕ) (d : DeclaredNode) → visible_node ds part name ≡ Some d → Spot m (nodes_in m ds home.Kernel ++ nodes_in m ds part) name d
+    there name d e =
+        let is = opened ds part name d e in
+        spot m ds all (nodes_in m ds home.Kernel ++ nodes_in m ds part) few name d is.0 (joined name d is.0 (or_cases (is_kernel d.block) (same_block part d.block) is.1))
+
+-- What stands at the number of a name has the name.
+pub spot_called : (nodes : List PatternNode) (name : List ℕ) (p : PatternNode) → slice_get nodes (position_or_len (called name) nodes) ≡ Some p → called name p ≡ true
+spot_called nodes name p at = (find_here (called name) nodes p (find_at (called name) nodes ∙ at)).2

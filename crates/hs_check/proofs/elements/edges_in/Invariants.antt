@@ -1,6 +1,0 @@
-use Rattle.std.proofs.Common.{◌≡◌, ◌++◌, drop}
-use Rattle.hs_check.specs.Elements.{edges_in}
-use Rattle.hs_check.proofs.elements.edges_in.Given as goal
-
-abbrev pub invariant-loop-statement : goal.invariant-loop-statement
-invariant-loop-statement l = l.edges ++ edges_in l.meta l.nodes (drop l.statement-index l.statements) l.part ≡ edges_in l.meta l.nodes l.statements l.part

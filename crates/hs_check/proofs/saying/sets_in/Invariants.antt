@@ -1,6 +1,0 @@
-use Rattle.std.proofs.Common.{◌≡◌, ◌++◌, drop}
-use Rattle.hs_check.specs.Expressions.{sets_in}
-use Rattle.hs_check.proofs.saying.sets_in.Given as goal
-
-abbrev pub invariant-loop-statement : goal.invariant-loop-statement
-invariant-loop-statement l = l.sets ++ sets_in l.names.meta.now l.names.params.now l.names.nodes.now (drop l.statement-index l.statements) l.part ≡ sets_in l.names.meta.now l.names.params.now l.names.nodes.now l.statements l.part

@@ -1,6 +1,0 @@
-use Rattle.std.proofs.Common.{◌≡◌, ◌++◌, drop}
-use Rattle.hs_check.specs.Expressions.{numbered, wheres_in}
-use Rattle.hs_check.proofs.saying.wheres_in.Given as goal
-
-abbrev pub invariant-loop-statement : goal.invariant-loop-statement
-invariant-loop-statement l = l.wheres ++ wheres_in (numbered l.names.meta.now l.names.params.now l.names.nodes.now) (drop l.statement-index l.statements) l.part ≡ wheres_in (numbered l.names.meta.now l.names.params.now l.names.nodes.now) l.statements l.part

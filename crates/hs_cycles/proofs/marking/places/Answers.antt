@@ -1,6 +1,0 @@
-use Rattle.std.proofs.Common.{◌∙◌, ◌++◌, ◌∷◌, [], ap, sym}
-use Rattle.hs_cycles.proofs.Ranges.{places-more}
-use Rattle.hs_cycles.proofs.marking.places.Goals as goal
-
-pub loop-place-preserved : goal.loop-place-preserved
-loop-place-preserved c = c.in_ok-push.ensures.items ∙ ap (λ places. places ++ c.loop-place.place ∷ []) c.loop-place.invariant ∙ sym (places-more c.loop-place.place)

@@ -1,0 +1,8 @@
+pub mod Classes
+pub mod Index
+pub mod Failures
+mod Expressions
+pub mod Definitions
+pub mod Slots
+pub mod RuleFaults
+pub mod Signatures

@@ -1,0 +1,173 @@
+//! The edges, sets and conditions of a rule, in written order.
+
+ghost use Rattle.std.specs.Prelude.{◌≡◌, ◌++◌, [], List, IfOk, OnOk, is_some, true};
+ghost use Rattle.std.specs.List.{list_all};
+ghost use Rattle.hs_expr.specs.Steps.{GivesBy};
+ghost use Rattle.hs_expr.specs.Verdict.{verdict};
+ghost use Rattle.hs_expr.specs.Steps.{GivesWhere};
+ghost use Rattle.hs_faults.specs.Depths.{is_flat};
+ghost use Rattle.hs_faults.specs.StatementKinds.{statement_at};
+ghost use Rattle.hs_faults.specs.StatementFaults as spec;
+ghost use Rattle.hs_faults.specs.Written.{HasSlots};
+
+use crate::edges::{check_edge, node_class, same_block, visible_node};
+use crate::fault::{RuleFault, RuleFaultKind, fault_at};
+use crate::name_index::{NodeIndex, ParamIndex};
+use crate::names::kind_named;
+use crate::nodes::DeclaredNode;
+use crate::scope::{ClassScope, check_expr};
+use crate::statements::{Statement, StatementKind};
+use crate::written::{Written, is_set_before, set_slot};
+use hs_expr::{Failure, Kind, Name, NameExpr, Span, demand, needed};
+use hs_text::Mark;
+use hs_types::Meta;
+use std::alloc::Global;
+
+/// The kind of the node's attribute of this name.
+fn attribute_kind(meta: &Meta, node: &DeclaredNode, name: &str) -> Option<Kind>
+    ensures { result ≡ spec.attribute_kind meta.now node.now name.now }
+{
+    let class = node_class(meta, node)?;
+    kind_named(meta, class, name)
+}
+
+pub fn same_kind(one: Kind, other: Kind) -> bool
+    ensures { result ≡ spec.same_kind one other }
+{
+    match (one, other) {
+        (Kind::Int, Kind::Int) => true,
+        (Kind::Bool, Kind::Bool) => true,
+        (Kind::Text, Kind::Text) => true,
+        _ => false,
+    }
+}
+
+/// Whether the value that is set nests few, or the first fault of the set.
+#[tactic(auto, unfolding(crate::specs::StatementFaults::set_checked))]
+fn check_set(
+    alloc: Global,
+    names: &ClassScope<'_, '_, '_>,
+    written: &Written<'_>,
+    node: &Name,
+    attribute: &Name,
+    value: &NameExpr,
+) -> Result<bool, Failure<RuleFault>>
+    ensures fault { (slots : List spec.Slot) → HasSlots written.now slots → GivesBy (λ flat. tt) result
+        (spec.set_checked names.now.meta.now names.now.params.now names.now.nodes.now slots names.now.block node.now attribute.now value.now) }
+    ensures depth { IfOk result (λ flat. flat ≡ spec.is_shallow (spec.class_scope names.now.meta.now names.now.params.now names.now.nodes.now names.now.block) value.now) }
+{
+    let target = visible_node(names.nodes, names.block, node)?;
+    demand(
+        target.mark != Mark::Delete,
+        fault_at(node.span, RuleFaultKind::WriteOnDeleted),
+    )?;
+    demand(
+        same_block(names.block, target.block),
+        fault_at(node.span, RuleFaultKind::KernelSlotInCopy),
+    )?;
+    let wanted = needed(
+        attribute_kind(names.meta, target, attribute.text.as_str()),
+        fault_at(attribute.span, RuleFaultKind::UnknownAttribute),
+    )?;
+    demand(
+        !is_set_before(written, node.text.as_str(), attribute.text.as_str()),
+        fault_at(attribute.span, RuleFaultKind::Twice),
+    )?;
+    let found = check_expr(alloc, names, value)?;
+    demand(
+        same_kind(found.kind, wanted),
+        fault_at(attribute.span, RuleFaultKind::BadKind),
+    )?;
+    Ok(found.expr.is_some())
+}
+
+/// Whether the condition nests few, or its first fault.
+#[tactic(auto, unfolding(crate::specs::StatementFaults::where_checked))]
+fn check_where(
+    alloc: Global,
+    names: &ClassScope<'_, '_, '_>,
+    word: Span,
+    test: &NameExpr,
+) -> Result<bool, Failure<RuleFault>>
+    ensures fault { GivesBy (λ flat. tt) result
+        (spec.where_checked names.now.meta.now names.now.params.now names.now.nodes.now names.now.block word test.now) }
+    ensures depth { IfOk result (λ flat. flat ≡ spec.is_shallow (spec.class_scope names.now.meta.now names.now.params.now names.now.nodes.now names.now.block) test.now) }
+{
+    let found = check_expr(alloc, names, test)?;
+    demand(
+        same_kind(found.kind, Kind::Bool),
+        fault_at(word, RuleFaultKind::BadKind),
+    )?;
+    Ok(found.expr.is_some())
+}
+
+/// Whether the statement's expression nests few, or its first fault. The slot that it sets joins those
+/// that are set.
+fn check_statement<'a>(
+    alloc: Global,
+    names: &ClassScope<'_, '_, '_>,
+    written: &mut Written<'a>,
+    kind: &StatementKind<'a>,
+) -> Result<bool, Failure<RuleFault>>
+    ensures fault { (slots : List spec.Slot) → HasSlots written.old slots → GivesBy (λ flat. tt) result
+        (spec.statement_checked names.now.meta.now names.now.params.now names.now.nodes.now slots (statement_at names.now.block kind.now)) }
+    ensures slots { (slots : List spec.Slot) → HasSlots written.old slots
+        → OnOk result (HasSlots written.new (slots ++ spec.slot_set_by (statement_at names.now.block kind.now))) }
+    ensures depth { IfOk result (λ flat. flat ≡ is_flat names.now.meta.now names.now.params.now names.now.nodes.now (statement_at names.now.block kind.now)) }
+{
+    match kind {
+        StatementKind::Edge {
+            mark,
+            source,
+            target,
+            reference,
+        } => {
+            check_edge(
+                names.meta,
+                names.nodes,
+                names.block,
+                *mark,
+                source,
+                target,
+                reference,
+            )?;
+            Ok(true)
+        }
+        StatementKind::Set {
+            node,
+            attribute,
+            value,
+        } => {
+            let flat = check_set(alloc, names, written, node, attribute, value)?;
+            set_slot(alloc, written, node.text.as_str(), attribute.text.as_str())?;
+            Ok(flat)
+        }
+        StatementKind::Where { word, test } => check_where(alloc, names, *word, test),
+    }
+}
+
+/// Whether all expressions of the statements nest few, or the first fault of the statements.
+pub fn check_statements<'a>(
+    alloc: Global,
+    meta: &Meta,
+    params: &ParamIndex<'_>,
+    nodes: &NodeIndex<'_>,
+    statements: &[Statement<'a>],
+) -> Result<bool, Failure<RuleFault>>
+    ensures { GivesWhere (λ flat. flat ≡ list_all (is_flat meta.now params.now nodes.now) statements.now) result
+        (verdict (spec.statement_faults meta.now params.now nodes.now [] statements.now)) }
+{
+    let mut written = Written::new(alloc);
+    let mut flat = true;
+    for statement in statements {
+        let names = ClassScope {
+            meta,
+            params,
+            nodes,
+            block: statement.block,
+        };
+        let one = check_statement(alloc, &names, &mut written, &statement.kind)?;
+        flat = flat && one;
+    }
+    Ok(flat)
+}

@@ -1,0 +1,3 @@
+pub mod Sound
+pub mod Floats
+pub mod Lines

@@ -1,0 +1,13 @@
+use Rattle.hs_match.specs.declared.extending.Extending.{Extending as Search}
+use Rattle.hs_match.specs.Extending.{Sought}
+
+-- What an extension begins from, and what it goes on to.
+abbrev pub sought : Search → Sought
+sought e = record {
+  meta = e.meta.now;
+  graph = e.graph.now;
+  base_nodes = e.base_nodes.now;
+  base = record { nodes = e.base_images.now; edges = e.base_edge_images.now };
+  nodes = e.nodes.now;
+  edges = e.edges.now;
+}

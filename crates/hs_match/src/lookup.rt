@@ -1,0 +1,32 @@
+ghost use Rattle.std.specs.Prelude.{◌≡◌, ◌≤◌, ◌<◌, ◌↔◌, ◌++◌, ℕ, IsTrue, Some, slice_get, option_copied};
+ghost use Rattle.hs_types.specs.TypedGraph.{object_at};
+ghost use Rattle.hs_match.specs.Candidates.{Ascend, IsFree, IsNextFrom};
+
+use hs_types::{ClassNo, Graph, Meta, Object, ObjectNo};
+
+/// The place of the first object whose number is `from` or above.
+pub fn first_from(objects: &[Object], from: u64) -> usize
+    requires { Ascend (λ object. object.number) objects.now }
+    ensures before { (i : ℕ) (object : _) → slice_get objects.now i ≡ Some object → i < result → object.number < from }
+    ensures behind { (i : ℕ) (object : _) → slice_get objects.now i ≡ Some object → result ≤ i → from ≤ object.number }
+{
+    objects.partition_point(|object| u64::from(object.number) < from)
+}
+
+/// The object with this number.
+pub fn find_object(graph: &Graph, number: ObjectNo) -> Option<&Object>
+    requires { Ascend (λ object. object.number) graph.now.objects }
+    ensures { option_copied result ≡ object_at graph.now number }
+{
+    let place = first_from(graph.objects.as_slice(), u64::from(number));
+    match graph.objects.get(place) {
+        Some(object) => {
+            if object.number == number {
+                Some(object)
+            } else {
+                None
+            }
+        }
+        None => None,
+    }
+}

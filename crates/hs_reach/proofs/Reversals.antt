@@ -1,0 +1,54 @@
+-- Edges that are reversed.
+use Rattle.std.proofs.Common.{ℕ, zero, suc, ◌<◌, ◌≡◌, ◌||◌, ◌&&◌, List, [], ◌∷◌, ◌++◌, Bool, true, false, eqb, get_or, length, set, refl, ap, sym, ◌∙◌, arith}
+use Rattle.std.proofs.lemmas.Bool.{eqb-true, false≢true}
+use Rattle.std.proofs.lemmas.List.{get_or-set_other, get_or-set_same}
+use Rattle.std.proofs.lemmas.List.Folds.{list_any-append}
+use Rattle.hs_expr.specs.Lists.{has}
+use Rattle.hs_reach.specs.Reaching.{AreReversed, TargetsAreVertices, Path, advance, has_edge, has_path, stay}
+use Rattle.hs_expr.proofs.Booleans.{same_test}
+use Rattle.hs_reach.proofs.Paths.{has_path-from, path-from_test, through}
+use Rattle.hs_reach.proofs.Searches.{apart}
+
+reversed-path : (graph reversed : List (List ℕ)) (k n : ℕ) → AreReversed graph reversed → Path reversed k n → Path graph n k
+reversed-path graph reversed k _ are (stay _) = stay k
+reversed-path graph reversed k n are (advance _ j _ edge rest) = through graph n j k (reversed-path graph reversed j n are rest) (advance j k k (sym (are j k) ∙ edge) (stay k))
+
+pub reversed-has_path : (graph reversed : List (List ℕ)) (k n : ℕ) → AreReversed graph reversed → has_path reversed k n ≡ has_path graph n k
+reversed-has_path graph reversed k n are =
+    same_test (has_path reversed k n) (has_path graph n k)
+    (λ t. has_path-from graph n k (reversed-path graph reversed k n are (path-from_test reversed k n t)))
+    (λ t. has_path-from reversed k n (reversed-path reversed graph n k (λ i j. sym (are j i)) (path-from_test graph n k t)))
+
+-- Edges lead to vertices of the reversed graph, since they come from vertices of the graph.
+pub source-within : (graph : List (List ℕ)) (n k : ℕ) → has_edge graph n k ≡ true → n < length graph
+source-within [] n k h = absurd (false≢true h)
+source-within (row ∷ graph) zero k h = omega arith
+source-within (row ∷ graph) (suc n) k h = let rest = source-within graph n k h in omega (arith, rest)
+
+pub reversed-targets : (graph reversed : List (List ℕ)) → AreReversed graph reversed → length reversed ≡ length graph → TargetsAreVertices reversed
+reversed-targets graph reversed are long n k h = let within = source-within graph k n (sym (are k n) ∙ h) in omega (arith, within, long)
+
+-- One edge more.
+pub edge-added : (graph : List (List ℕ)) (vertex to n k : ℕ) → vertex < length graph → has_edge (set graph vertex (get_or graph vertex [] ++ to ∷ [])) n k ≡ (has_edge graph n k || (eqb k to && eqb n vertex))
+edge-added graph vertex to n k within = go (eqb n vertex) refl
+  where
+    ends : (a b : Bool) → (a || (b || false)) ≡ (a || (b && true))
+    ends true b = refl
+    ends false true = refl
+    ends false false = refl
+
+    neither : (a b : Bool) → a ≡ (a || (b && false))
+    neither true b = refl
+    neither false true = refl
+    neither false false = refl
+
+    go : (b : Bool) → eqb n vertex ≡ b → has_edge (set graph vertex (get_or graph vertex [] ++ to ∷ [])) n k ≡ (has_edge graph n k || (eqb k to && b))
+    go true e =
+        let same = eqb-true n vertex e in
+        ap (λ j. has_edge (set graph vertex (get_or graph vertex [] ++ to ∷ [])) j k) same
+        ∙ ap (λ ns. has ns k) (get_or-set_same graph vertex (get_or graph vertex [] ++ to ∷ []) [] within)
+        ∙ list_any-append (eqb k) (get_or graph vertex []) (to ∷ [])
+        ∙ ends (has_edge graph vertex k) (eqb k to)
+        ∙ ap (λ j. has_edge graph j k || (eqb k to && true)) (sym same)
+    go false e =
+        ap (λ ns. has ns k) (get_or-set_other graph vertex n (get_or graph vertex [] ++ to ∷ []) [] (apart n vertex e)) ∙ neither (has_edge graph n k) (eqb k to)

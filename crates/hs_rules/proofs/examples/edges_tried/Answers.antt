@@ -1,7 +1,0 @@
-use Rattle.std.proofs.Common.{refl}
-use Rattle.hs_rules.specs.ThirdPass.{edge_checked}
-use Rattle.hs_rules.proofs.examples.edges_tried.Goals as goal
-
-pub returns : goal.returns
-unfolding edge_checked
-returns c = record { fine = refl; classes = refl; marks = refl }

@@ -1,6 +1,0 @@
-use Rattle.std.proofs.Common.{take}
-use Rattle.hs_rules.specs.Named.{Knows}
-use Rattle.hs_rules.proofs.known.known_of.Given as goal
-
-abbrev pub invariant-loop-item : goal.invariant-loop-item
-invariant-loop-item g l = Knows g.T.Named.named l.known (take l.item-index l.items)

@@ -1,5 +1,0 @@
-use Rattle.hs_rules.proofs.Classes.{conforms_test}
-use Rattle.hs_rules.proofs.names.conforms.Goals as goal
-
-pub returns : goal.returns
-returns c = conforms_test c.args.meta.now c.args.class c.args.above c.conforms.result c.conforms.ensures

@@ -1,8 +1,0 @@
-use Rattle.std.proofs.Common.{◌≡◌, ◌++◌, drop}
-use Rattle.std.specs.List.{flat_map}
-use Rattle.hs_text.specs.declared.syntax.Mark.TheVariants.{Preserve}
-use Rattle.hs_rules.specs.Nodes.{node_of_element}
-use Rattle.hs_rules.proofs.nodes.add_of_elements.Given as goal
-
-abbrev pub invariant-loop-element : goal.invariant-loop-element
-invariant-loop-element l = l.nodes ++ flat_map (node_of_element l.home Preserve) (drop l.element-index l.elements) ≡ l.fn.nodes ++ flat_map (node_of_element l.home Preserve) l.elements

@@ -1,8 +1,0 @@
-use Rattle.std.proofs.Common.{◌≡◌, ◌++◌, drop}
-use Rattle.std.specs.List.{flat_map}
-use Rattle.hs_text.specs.declared.syntax.Mark.TheVariants.{Preserve}
-use Rattle.hs_rules.specs.Statements.{statement_of_element}
-use Rattle.hs_rules.proofs.statements.add_of_elements.Given as goal
-
-abbrev pub invariant-loop-element : goal.invariant-loop-element
-invariant-loop-element l = l.all ++ flat_map (statement_of_element l.home Preserve) (drop l.element-index l.elements) ≡ l.fn.all ++ flat_map (statement_of_element l.home Preserve) l.elements

@@ -1,8 +1,0 @@
-use Rattle.std.proofs.Common.{◌-◌, length, take}
-use Rattle.hs_text.specs.Trees.{tree_of}
-use Rattle.hs_text.specs.Canonical.{grown_text}
-use Rattle.hs_text.proofs.Arranged.{IsArranged}
-use Rattle.hs_text.proofs.arranging.arranged.Given as goal
-
-abbrev pub invariant-loop-i : goal.invariant-loop-i
-invariant-loop-i l = IsArranged (take (length l.pieces - l.i) l.pieces) l.tasks l.texts (grown_text (tree_of l.pieces))

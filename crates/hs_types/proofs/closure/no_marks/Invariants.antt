@@ -1,5 +1,0 @@
-use Rattle.std.proofs.Common.{◌≡◌, ◌++◌, drop, map, false}
-use Rattle.hs_types.proofs.closure.no_marks.Given as goal
-
-abbrev pub invariant-loop : goal.invariant-loop
-invariant-loop l = l.marks ++ map (λ numbers. false) (drop l.index l.supers) ≡ map (λ numbers. false) l.supers

@@ -1,7 +1,0 @@
-use Rattle.std.proofs.Common.{◌≡◌, map, length}
-use Rattle.std.specs.List.{range_with_len}
-use Rattle.hs_types.specs.Supertypes as spec
-use Rattle.hs_types.proofs.closure.rows_below.Given as goal
-
-abbrev pub invariant-loop-d : goal.invariant-loop-d
-invariant-loop-d l = l.rows ≡ map (λ d. spec.below_within l.supers d (length l.supers)) (range_with_len 0 l.d)
