@@ -14,7 +14,7 @@ use Rattle.hs_types.specs.declared.meta.Metamodel.{Metamodel}
 use Rattle.hs_types.specs.declared.request.Arg.{Arg}
 use Rattle.hs_types.specs.declared.request.Arg.TheVariants as arg
 use Rattle.hs_types.specs.declared.request.Args.{Args}
-use Rattle.hs_types.specs.declared.unit.RuleSet.{RuleSet}
+use Rattle.hs_types.specs.declared.rule_set.RuleSet.{RuleSet}
 use Rattle.hs_session.specs.declared.report.Out.{Out}
 use Rattle.hs_session.specs.declared.report.Reply.{Reply}
 use Rattle.hs_json_model.specs.Written.{with_members, object_data, list_data, value_data}

@@ -3,7 +3,7 @@ use Rattle.std.specs.Prelude.{ℕ, ◌≡◌, List, Option, Some, None}
 use Rattle.hs_text.specs.declared.syntax.Syntax.{Syntax}
 use Rattle.hs_text.specs.Canonical.{canonical_text}
 use Rattle.hs_types.specs.declared.request.Request.{Request}
-use Rattle.hs_types.specs.declared.unit.RuleSet.{RuleSet}
+use Rattle.hs_types.specs.declared.rule_set.RuleSet.{RuleSet}
 use Rattle.hs_types.specs.Journal.{meta_of}
 use Rattle.hs_json.specs.Problems.{problems_text}
 use Rattle.hs_json.specs.Reading.{Contents}

@@ -19,7 +19,7 @@ use Rattle.hs_types.specs.declared.matching.Match.{Match}
 use Rattle.hs_types.specs.declared.meta.Metamodel.{Metamodel}
 use Rattle.hs_types.specs.declared.request.Args.{Args}
 use Rattle.hs_types.specs.declared.rule.Rule.{Rule}
-use Rattle.hs_types.specs.declared.unit.RuleSet.{RuleSet}
+use Rattle.hs_types.specs.declared.rule_set.RuleSet.{RuleSet}
 use Rattle.hs_types.specs.Journal.{AreLawfulTries, Asks, EntryFailsBy, IsLawful, IsLawfulEntry, IsLawfulTry, IsLawfulWritten, IsUnlawfulAt, OneFailsBy, OutcomeAsks, after_entry, after_journal, after_outcome, after_tries, after_try, after_what, match_named, meta_of, rule_of, tries_in, IsNumbered, rank, FailsBy}
 use Rattle.hs_types.specs.Metamodel.{IsMeta}
 use Rattle.hs_types.specs.Plan.{plan_of}

@@ -4,7 +4,7 @@ ghost use Rattle.hs_expr.specs.declared.expr.Sign.TheVariants as sign;
 ghost use Rattle.hs_expr.specs.declared.value.Value.TheVariants as value;
 ghost use Rattle.hs_expr.specs.Evaluation.{Env, value_of};
 ghost use Rattle.hs_types.specs.declared.entry.Cause.TheVariants as cause;
-ghost use Rattle.hs_types.specs.declared.unit.RuleSet.{RuleSet};
+ghost use Rattle.hs_types.specs.declared.rule_set.RuleSet.{RuleSet};
 ghost use Rattle.hs_types.specs.declared.graph.Graph.{Graph};
 ghost use Rattle.hs_types.specs.declared.meta.Metamodel.{Metamodel};
 ghost use Rattle.hs_types.specs.declared.meta.DataType.TheVariants.{EInt};

@@ -5,7 +5,7 @@ ghost use Rattle.hs_types.specs.declared.entry.Entry.{Entry};
 ghost use Rattle.hs_types.specs.declared.entry.Outcome.TheVariants.{Missed};
 ghost use Rattle.hs_types.specs.declared.entry.Tried.{Tried};
 ghost use Rattle.hs_types.specs.declared.graph.Graph.{Graph};
-ghost use Rattle.hs_types.specs.declared.unit.RuleSet.{RuleSet};
+ghost use Rattle.hs_types.specs.declared.rule_set.RuleSet.{RuleSet};
 ghost use Rattle.hs_types.specs.Journal.{IsLawful, IsLawfulEntry, IsLawfulWritten, IsUnlawfulAt, after_entry, after_journal, after_try, meta_of};
 ghost use Rattle.hs_types.specs.Metamodel.{IsMeta};
 ghost use Rattle.hs_types.specs.RuleForm.{IsRule};

@@ -13,7 +13,7 @@ use Rattle.hs_types.specs.declared.matching.Match.{Match}
 use Rattle.hs_types.specs.declared.meta.Metamodel.{Metamodel}
 use Rattle.hs_types.specs.declared.request.Request.{Request}
 use Rattle.hs_types.specs.declared.rule.Rule.{Rule}
-use Rattle.hs_types.specs.declared.unit.RuleSet.{RuleSet}
+use Rattle.hs_types.specs.declared.rule_set.RuleSet.{RuleSet}
 use Rattle.hs_types.specs.Journal.{OutcomeAsks, after_outcome, meta_of, new_names}
 use Rattle.hs_types.specs.Plan.{plan_of}
 use Rattle.hs_types.specs.TypedGraph.{IsTyped, name_at}

@@ -16,7 +16,7 @@ use Rattle.hs_types.specs.declared.graph.ListGraph.{ListGraph}
 use Rattle.hs_types.specs.declared.matching.Match.{Match}
 use Rattle.hs_types.specs.declared.request.Request.{Request}
 use Rattle.hs_types.specs.declared.rule.Rule.{Rule}
-use Rattle.hs_types.specs.declared.unit.RuleSet.{RuleSet}
+use Rattle.hs_types.specs.declared.rule_set.RuleSet.{RuleSet}
 use Rattle.hs_types.specs.Arguments.{ArgsFit}
 use Rattle.hs_types.specs.Journal.{IsLawfulEntry, IsLawfulTry, OutcomeAsks, after_journal, after_outcome, match_named, meta_of, rule_of, tries_in}
 use Rattle.hs_types.specs.Arguments.{no_args}

@@ -19,7 +19,7 @@ use Rattle.hs_types.specs.declared.meta.Metamodel.{Metamodel}
 use Rattle.hs_types.specs.declared.request.Args.{Args}
 use Rattle.hs_types.specs.declared.request.Request.{Request}
 use Rattle.hs_types.specs.declared.rule.Rule.{Rule}
-use Rattle.hs_types.specs.declared.unit.RuleSet.{RuleSet}
+use Rattle.hs_types.specs.declared.rule_set.RuleSet.{RuleSet}
 use Rattle.hs_types.specs.Arguments.{ArgsFit}
 use Rattle.hs_types.specs.Journal.{IsLawful, IsLawfulTry, IsWithinNumbers, OutcomeAsks, after_journal, gone_objects, match_named, meta_of, new_names, old_values, rule_of, tries_in}
 use Rattle.hs_types.specs.Plan.{plan_of}

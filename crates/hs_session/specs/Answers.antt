@@ -5,7 +5,7 @@ use Rattle.hs_types.specs.declared.entry.Outcome.{Outcome}
 use Rattle.hs_types.specs.declared.entry.Outcome.TheVariants.{Applied, Missed}
 use Rattle.hs_types.specs.declared.entry.Tried.{Tried}
 use Rattle.hs_types.specs.declared.request.Request.{Request}
-use Rattle.hs_types.specs.declared.unit.RuleSet.{RuleSet}
+use Rattle.hs_types.specs.declared.rule_set.RuleSet.{RuleSet}
 use Rattle.hs_expr.specs.Lists.{same_text}
 use Rattle.hs_session.specs.declared.report.Word.{Word}
 use Rattle.hs_session.specs.declared.report.Word.TheVariants as word

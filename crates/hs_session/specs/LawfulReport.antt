@@ -13,7 +13,7 @@ use Rattle.hs_types.specs.declared.graph.Graph.{Graph}
 use Rattle.hs_types.specs.declared.matching.Match.{Match}
 use Rattle.hs_types.specs.declared.request.Request.{Request}
 use Rattle.hs_types.specs.declared.rule.Rule.{Rule}
-use Rattle.hs_types.specs.declared.unit.RuleSet.{RuleSet}
+use Rattle.hs_types.specs.declared.rule_set.RuleSet.{RuleSet}
 use Rattle.hs_types.specs.Arguments.{is_in}
 use Rattle.hs_types.specs.Journal.{IsLawful, after_journal, match_named, meta_of, rule_of, tries_in}
 use Rattle.hs_types.specs.Outs.{out_of}

@@ -10,7 +10,7 @@ use Rattle.hs_types.specs.declared.meta.Metamodel.{Metamodel}
 use Rattle.hs_types.specs.declared.request.Args.{Args}
 use Rattle.hs_types.specs.declared.request.Request.{Request}
 use Rattle.hs_types.specs.declared.rule.Rule.{Rule}
-use Rattle.hs_types.specs.declared.unit.RuleSet.{RuleSet}
+use Rattle.hs_types.specs.declared.rule_set.RuleSet.{RuleSet}
 use Rattle.hs_types.specs.Journal.{after_journal, after_try, match_named, meta_of, rule_of, tries_in}
 use Rattle.hs_expr.specs.Lists.{EachPair}
 use Rattle.hs_types.specs.ValidMatch.{IsLeast}

@@ -1,5 +1,5 @@
 ghost use Rattle.std.specs.Prelude.{◌≡◌, [], ◌∷◌};
-ghost use Rattle.hs_types.specs.declared.unit.RuleSet.{RuleSet};
+ghost use Rattle.hs_types.specs.declared.rule_set.RuleSet.{RuleSet};
 ghost use Rattle.hs_laws.specs.Bank.{add, adds, just_client, open_account, opens};
 ghost use Rattle.hs_session.specs.declared.report.Report.{Report};
 ghost use Rattle.hs_session.specs.declared.report.Word.TheVariants as word;

@@ -6,3 +6,5 @@ pub mod Orders
 pub mod Defaults
 pub mod Conforming
 pub mod Edges
+pub mod SplitSupport
+pub mod Forms

@@ -23,7 +23,7 @@ use Rattle.hs_types.specs.declared.meta.Metamodel.{Metamodel}
 use Rattle.hs_types.specs.declared.plan.Plan.{Plan}
 use Rattle.hs_types.specs.declared.request.Args.{Args}
 use Rattle.hs_types.specs.declared.rule.Rule.{Rule}
-use Rattle.hs_types.specs.declared.unit.RuleSet.{RuleSet}
+use Rattle.hs_types.specs.declared.rule_set.RuleSet.{RuleSet}
 use Rattle.hs_types.specs.Arguments.{ArgsFit}
 use Rattle.hs_expr.specs.Lists.{map_all}
 use Rattle.hs_types.specs.Plan.{plan_of}

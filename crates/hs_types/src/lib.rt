@@ -12,6 +12,7 @@ mod conformance;
 mod data_type;
 mod entry;
 mod features;
+mod laws;
 mod graph;
 pub mod limits;
 mod lookup;
@@ -22,11 +23,13 @@ mod plan;
 mod reachability;
 mod request;
 mod rule;
+mod rule_set;
 mod unit;
 
 pub use conformance::Meta;
 pub use entry::{Cause, Entry, ExtensionNames, Gone, MatchNames, Outcome, Tried, What};
 pub use graph::{Edge, EdgeNo, Graph, ListGraph, Object, ObjectNo, Slot};
+pub use laws::rule_sets_are_formed;
 pub use matching::{Extension, Match};
 pub use meta::{Class, ClassNo, DataType, Feature, FeatureKind, FeatureNo, Metamodel};
 pub use pattern::{
@@ -39,4 +42,5 @@ pub use rule::{
     Direction, Mark, Multi, Param, ParamKind, Part, PatternEdge, PatternNode, PatternSlot, Rule,
     SetItem, Shape, SlotKind,
 };
-pub use unit::{Atom, Bind, Body, Call, Callee, Count, RuleSet, Unit};
+pub use rule_set::RuleSet;
+pub use unit::{Atom, Bind, Body, Call, Callee, Count, Unit};

@@ -1,6 +1,5 @@
-use crate::{Meta, Param, Rule};
+use crate::Param;
 use hs_expr::{List, Text, Value};
-use std::sync::Arc;
 
 /// A rule or a unit, by its place in the rule set.
 #[derive(Clone, Copy, PartialEq, Eq, Debug)]
@@ -63,12 +62,4 @@ pub struct Unit {
     pub name: Text,
     pub params: List<Param>,
     pub body: Body,
-}
-
-/// The checked rules and units over a metamodel.
-#[derive(Debug, Drop)]
-pub struct RuleSet {
-    pub meta: Arc<Meta>,
-    pub rules: List<Rule>,
-    pub units: List<Unit>,
 }

@@ -17,7 +17,7 @@ use Rattle.hs_types.specs.Metamodel.{fits, itself}
 use Rattle.hs_types.specs.ValidMatch.{IsValid}
 use Rattle.hs_expr.proofs.Lists.{All-one, below_differs}
 use Rattle.hs_types.specs.declared.graph.Graph.{Graph}
-use Rattle.hs_types.specs.declared.unit.RuleSet.{RuleSet}
+use Rattle.hs_types.specs.declared.rule_set.RuleSet.{RuleSet}
 use Rattle.hs_types.specs.Journal.{Asks, IsLawfulEntry, IsNumbered, after_entry, meta_of, rank, tries_in}
 use Rattle.hs_expr.proofs.Evaluations.{values}
 use Rattle.hs_laws.specs.Bank.{add, adds, args_of, at_match, balance, client_with_new_account, client_with_one, just_client, model, number, object_arg, open_account, open_args, opens, opens_missed, opens_misnamed, opens_and_drops, set_balance, tried}
