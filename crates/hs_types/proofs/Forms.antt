@@ -1,10 +1,10 @@
 -- The forms of rules, units and rule sets have split support.
-use Rattle.std.proofs.Common.{ℕ, zero, suc, ◌<◌, ◌≤◌, ◌≡◌, ◌&&◌, ◌||◌, ◌⊎◌, inl, inr, List, ◌++◌, Bool, true, false, not, map, length, Option, Some, None, IsSome, IsSomeAnd, eqb, nat_lt, slice_get, refl, sym, subst, ◌∙◌, arith}
+use Rattle.std.proofs.Common.{ℕ, zero, suc, ◌<◌, ◌≤◌, ◌≡◌, ◌&&◌, ◌||◌, ◌⊎◌, inl, inr, List, ◌++◌, Bool, true, false, not, map, length, Option, Some, None, IsSomeAnd, eqb, nat_lt, slice_get, refl, sym, subst, ◌∙◌, arith}
 use Rattle.std.proofs.lemmas.Bool.{and_parts, eqb-false, eqb-true, false≢true, ltb-false, ltb-true}
 use Rattle.std.proofs.lemmas.Option.{slice_get_within}
-use Rattle.std.specs.Coded.{Coded, Coded-set, code_by, coded_bool, coded_ℕ, coded_option, coded⊎, le_prop, Unit-prop}
-use Rattle.std.specs.List.{All, find, list_any}
-use Rattle.std.specs.Option.{option_map_or}
+use Rattle.std.specs.Coded.{Coded, Coded-set, code_by, coded_bool, coded_list, coded_ℕ, coded_option, coded⊎, le_prop}
+use Rattle.std.specs.List.{All, AllPairs, find, flat_map, list_any}
+use Rattle.std.specs.Option.{option_map, option_map_or}
 use mathlib.Core.HLevel.{⊥_prop}
 use mathlib.Core.Logic.{∥∥₁_elim, ∥∥₁_map}
 use Rattle.hs_expr.specs.declared.expr.Expr.{Expr}
@@ -12,15 +12,17 @@ use Rattle.hs_expr.specs.declared.expr.SlotRead.{SlotRead}
 use Rattle.hs_expr.specs.declared.value.Kind.{Kind}
 use Rattle.hs_expr.specs.declared.value.Kind.TheVariants as value
 use Rattle.hs_expr.specs.Evaluation.{Scope, kind_in, nesting}
-use Rattle.hs_expr.specs.Lists.{Differ, has, same_text}
+use Rattle.hs_expr.specs.Lists.{Differ, each_once, has, same_text}
 use Rattle.hs_expr.specs.declared.expr.TheConstants.{MAX_NESTING}
-use Rattle.hs_types.specs.declared.limits.TheConstants.{MAX_PARALLEL_EDGES}
+use Rattle.hs_types.specs.declared.limits.TheConstants.{MAX_FEATURES, MAX_PARALLEL_EDGES}
 use Rattle.hs_types.specs.declared.meta.Class.{Class}
+use Rattle.hs_types.specs.declared.meta.Feature.{Feature}
+use Rattle.hs_types.specs.declared.meta.FeatureKind.{FeatureKind}
+use Rattle.hs_types.specs.declared.meta.FeatureKind.TheVariants as feature
 use Rattle.hs_types.specs.declared.meta.Metamodel.{Metamodel}
 use Rattle.hs_types.specs.declared.rule.Direction.{Direction}
 use Rattle.hs_types.specs.declared.rule.Direction.TheVariants.{In, Out}
 use Rattle.hs_types.specs.declared.rule.Mark.{Mark}
-use Rattle.hs_types.specs.declared.rule.Multi.{Multi}
 use Rattle.hs_types.specs.declared.rule.Param.{Param}
 use Rattle.hs_types.specs.declared.rule.ParamKind.{ParamKind}
 use Rattle.hs_types.specs.declared.rule.ParamKind.TheVariants.{Data, Object}
@@ -43,15 +45,14 @@ use Rattle.hs_types.specs.declared.unit.Call.{Call}
 use Rattle.hs_types.specs.declared.unit.Count.{Count}
 use Rattle.hs_types.specs.declared.unit.Count.TheVariants as count
 use Rattle.hs_types.specs.declared.unit.Unit.{Unit as RuleUnit}
-use Rattle.hs_types.specs.Metamodel.{Conforms, HaveCommon, IsConcrete, IsMeta, attributes_of, class_at, conforms, features_of, supers_of, target_of}
+use Rattle.hs_types.specs.Metamodel.{Conforms, FeatureFits, HaveCommon, IsConcrete, IsMeta, StandBefore, attributes_of, class_at, conforms, feature_at, features_of, is_attribute, is_of_type, owned_by, supers_of, target_of}
 use Rattle.hs_types.specs.Pattern.{is_drop, is_keep, is_left, node_is}
-use Rattle.hs_types.specs.Limits.{AreFlat, IsSmallRule, IsSmallShape, IsSmallUnit, parallel_to}
-use Rattle.hs_types.specs.Reachability.{Reaches}
-use Rattle.hs_types.specs.RuleForm.{AreSlots, all_nodes, EdgeFits, EndFits, IsBlock, IsMulti, IsPart, IsRule, KindBefore, NodeFits, ParamFits, SetFits, SetOnce, SlotBefore, has_slot, is_read, is_set, joins, kernel_reads, param_side, reads_in, scope_of}
-use Rattle.hs_types.specs.UnitForm.{bound_name, AreAcyclic, AreBinds, AtomFits, BindFits, BodyFits, CallFits, CountFits, GoalFits, IsRuleSet, IsUnit, KindFits, UnitParamFits, param_named, params_of, units_called}
+use Rattle.hs_types.specs.Limits.{AreFlat, IsSmallMeta, IsSmallRule, IsSmallShape, IsSmallUnit, parallel_to}
+use Rattle.hs_types.specs.RuleForm.{AreSlots, all_nodes, EdgeFits, EndFits, IsBlock, IsMulti, IsPart, IsRule, KindBefore, NodeFits, ParamFits, SetFits, SlotBefore, has_slot, is_read, is_set, joins, kernel_reads, param_side, reads_in, scope_of}
+use Rattle.hs_types.specs.UnitForm.{bound_name, AreBinds, AtomFits, BindFits, BodyFits, CallFits, CountFits, GoalFits, IsRuleSet, IsUnit, KindFits, UnitParamFits, param_named, params_of}
 use Rattle.hs_types.specs.Units.{calls_of}
 use Rattle.hs_types.proofs.Conforming.{concrete_from, concrete_to, conforms_from, conforms_to}
-use Rattle.hs_types.proofs.SplitSupport.{HasSplitSupport, split-prop, split-×, split-→, split-test, split-All, split-IsSomeAnd, split-EachPair}
+use Rattle.hs_types.proofs.SplitSupport.{HasSplitSupport, split-prop, split-×, split-×₃, split-→, split-test, split-All, split-IfSome, split-IsSomeAnd, split-EachPair}
 
 coded_direction : Coded Direction
 coded_direction = code_by Bool coded_bool to from back
@@ -173,13 +174,13 @@ split-EndFits test nodes P n each = split-IsSomeAnd (λ node. (test node.mark �
 
 split-EdgeFits : (m : Metamodel) (test : Mark → Bool) (nodes : List PatternNode) (edge : PatternEdge) → HasSplitSupport (EdgeFits m test nodes edge)
 split-EdgeFits m test nodes edge = split-×
-  (split-EndFits test nodes (λ c. has (features_of m c) edge.reference ≡ true) edge.source (λ c. split-true (has (features_of m c) edge.reference)))
-  (split-IsSomeAnd (λ class. EndFits test nodes (λ c. Conforms m c class) edge.target) (target_of m edge.reference) (λ class. split-EndFits test nodes (λ c. Conforms m c class) edge.target (λ c. split-Conforms m c class)))
+    (split-EndFits test nodes (λ c. has (features_of m c) edge.reference ≡ true) edge.source (λ c. split-true (has (features_of m c) edge.reference)))
+    (split-IsSomeAnd (λ class. EndFits test nodes (λ c. Conforms m c class) edge.target) (target_of m edge.reference) (λ class. split-EndFits test nodes (λ c. Conforms m c class) edge.target (λ c. split-Conforms m c class)))
 
 split-SetFits : (m : Metamodel) (scope : Scope) (nodes : List PatternNode) (item : SetItem) → HasSplitSupport (SetFits m scope nodes item)
 split-SetFits m scope nodes item = split-×
-  (split-EndFits (λ mark. not (is_drop mark)) nodes (λ c. has (attributes_of m c) item.attribute ≡ true) item.node (λ c. split-true (has (attributes_of m c) item.attribute)))
-  (split-same (coded_option coded_kind) _ _)
+    (split-EndFits (λ mark. not (is_drop mark)) nodes (λ c. has (attributes_of m c) item.attribute ≡ true) item.node (λ c. split-true (has (attributes_of m c) item.attribute)))
+    (split-same (coded_option coded_kind) _ _)
 
 split-KindBefore : (features : List ℕ) (a b : SlotKind) → HasSplitSupport (KindBefore features a b)
 split-KindBefore features (Attribute a) (Attribute b) = split-≤ _ _
@@ -190,25 +191,22 @@ split-KindBefore features (Link r) (Link s) = split-≤ _ _
 split-KindBefore features (Link r) Container = split-⊤
 split-KindBefore features Container b = split-⊥
 
-split-SlotBefore : (m : Metamodel) (nodes : List PatternNode) (s t : PatternSlot) → HasSplitSupport (SlotBefore m nodes s t)
-split-SlotBefore m nodes s t h = go (nat_lt s.node t.node) refl
+-- A number is less than another, or else the second part holds.
+split-less : (a b : ℕ) {B : Type 0} → HasSplitSupport B → HasSplitSupport ((a < b) ⊎ B)
+split-less a b {B} rest h = go (nat_lt a b) refl
   where
-    InOrder : PatternNode → Type 0
-    InOrder node = KindBefore (features_of m node.class) s.kind t.kind
-
-    AtOne : Type 0
-    AtOne = (s.node ≡ t.node) × IsSomeAnd (slice_get nodes s.node) InOrder
-
-    at_one : HasSplitSupport AtOne
-    at_one = split-× (split-same coded_ℕ s.node t.node) (split-IsSomeAnd InOrder (slice_get nodes s.node) (λ node. split-KindBefore (features_of m node.class) s.kind t.kind))
-
-    other : (s.node < t.node → ⊥) → SlotBefore m nodes s t → AtOne
+    other : (a < b → ⊥) → (a < b) ⊎ B → B
     other not (inl low) = absurd (not low)
     other not (inr is) = is
 
-    go : (low : Bool) → nat_lt s.node t.node ≡ low → SlotBefore m nodes s t
-    go true e = inl (ltb-true s.node t.node e)
-    go false e = inr (at_one (∥∥₁_map h (other (λ low. let high : t.node ≤ s.node = ltb-false s.node t.node e in omega (arith, low, high)))))
+    go : (low : Bool) → nat_lt a b ≡ low → (a < b) ⊎ B
+    go true e = inl (ltb-true a b e)
+    go false e = inr (rest (∥∥₁_map h (other (λ low. let high : b ≤ a = ltb-false a b e in omega (arith, low, high)))))
+
+split-SlotBefore : (m : Metamodel) (nodes : List PatternNode) (s t : PatternSlot) → HasSplitSupport (SlotBefore m nodes s t)
+split-SlotBefore m nodes s t = split-less s.node t.node (split-×
+    (split-same coded_ℕ s.node t.node)
+    (split-IsSomeAnd (λ node. KindBefore (features_of m node.class) s.kind t.kind) (slice_get nodes s.node) (λ node. split-KindBefore (features_of m node.class) s.kind t.kind)))
 
 split-AreSlots : (m : Metamodel) (nodes : List PatternNode) (first : ℕ) (reads : List SlotRead) (sets : List SetItem) (slots : List PatternSlot) → HasSplitSupport (AreSlots m nodes first reads sets slots)
 split-AreSlots m nodes first reads sets slots h = record {
@@ -261,8 +259,8 @@ split-IsSmallShape nodes edges h = record {
 
 split-AreFlat : (wheres : List Expr) (sets : List SetItem) → HasSplitSupport (AreFlat wheres sets)
 split-AreFlat wheres sets = split-×
-  (split-All (λ expr. nesting expr ≤ MAX_NESTING) wheres (λ expr. split-≤ _ _))
-  (split-All (λ item. nesting item.value ≤ MAX_NESTING) sets (λ item. split-≤ _ _))
+    (split-All (λ expr. nesting expr ≤ MAX_NESTING) wheres (λ expr. split-≤ _ _))
+    (split-All (λ item. nesting item.value ≤ MAX_NESTING) sets (λ item. split-≤ _ _))
 
 split-IsSmallRule : (rule : Rule) → HasSplitSupport (IsSmallRule rule)
 split-IsSmallRule rule h = record {
@@ -294,9 +292,9 @@ split-AtomFits m own (atom.Name name) wanted = split-IsSomeAnd (λ param. KindFi
 
 split-BindFits : (m : Metamodel) (own params : List Param) (bind : Bind) → HasSplitSupport (BindFits m own params bind)
 split-BindFits m own params (Give name given) = split-IsSomeAnd (λ param. (param.direction ≡ In) × AtomFits m own given param.kind) (param_named params name)
-  (λ param. split-× (split-same coded_direction param.direction In) (split-AtomFits m own given param.kind))
+    (λ param. split-× (split-same coded_direction param.direction In) (split-AtomFits m own given param.kind))
 split-BindFits m own params (Take name variable) = split-IsSomeAnd (λ param. (param.direction ≡ Out) × IsSomeAnd (param_named own variable) (GoalFits m param.kind)) (param_named params name)
-  (λ param. split-× (split-same coded_direction param.direction Out) (split-IsSomeAnd (GoalFits m param.kind) (param_named own variable) (λ goal. split-× (split-same coded_direction goal.direction Out) (split-KindFits m param.kind goal.kind))))
+    (λ param. split-× (split-same coded_direction param.direction Out) (split-IsSomeAnd (GoalFits m param.kind) (param_named own variable) (λ goal. split-× (split-same coded_direction goal.direction Out) (split-KindFits m param.kind goal.kind))))
 
 split-AreBinds : (m : Metamodel) (own params : List Param) (binds : List Bind) → HasSplitSupport (AreBinds m own params binds)
 split-AreBinds m own params binds h = record {
@@ -311,7 +309,7 @@ split-CallFits m rules units own call = split-IsSomeAnd (λ params. AreBinds m o
 split-CountFits : (own : List Param) (times : Count) → HasSplitSupport (CountFits own times)
 split-CountFits own (count.Literal n) = split-⊤
 split-CountFits own (count.Param name) = split-IsSomeAnd (λ param. (param.direction ≡ In) × (param.kind ≡ Data value.Int)) (param_named own name)
-  (λ param. split-× (split-same coded_direction param.direction In) (split-same coded_param_kind param.kind (Data value.Int)))
+    (λ param. split-× (split-same coded_direction param.direction In) (split-same coded_param_kind param.kind (Data value.Int)))
 
 split-BodyFits : (own : List Param) (body : Body) → HasSplitSupport (BodyFits own body)
 split-BodyFits own (body.Sequential calls) = split-⊤
@@ -343,6 +341,38 @@ split-IsRuleSet m rules units h = record {
   few_units = split-≤ _ _ (∥∥₁_map h (λ r. r.few_units));
 }
 
--- What the type of rule sets carries: over a metamodel, the form of rules and units.
-pub form_of : (m : Metamodel) (rules : List Rule) (units : List RuleUnit) → ∥ (IsMeta m → IsRuleSet m rules units) ∥₁ → IsMeta m → IsRuleSet m rules units
-form_of m rules units = split-→ (λ is. IsRuleSet m rules units) (λ is. split-IsRuleSet m rules units)
+split-AllPairs : {A : Type 0} (R : A → A → Type 0) (xs : List A) → ((x y : A) → HasSplitSupport (R x y)) → HasSplitSupport (AllPairs R xs)
+split-AllPairs R xs each h = λ i j d before low. each _ _ (∥∥₁_map h (λ all. all i j d before low))
+
+split-StandBefore : (f g : Feature) → HasSplitSupport (StandBefore f g)
+split-StandBefore f g = split-less f.owner g.owner
+    (split-× (split-same coded_ℕ f.owner g.owner) (split-→ _ (λ attribute. split-true (is_attribute f))))
+
+split-FeatureFits : (m : Metamodel) (kind : FeatureKind) → HasSplitSupport (FeatureFits m kind)
+split-FeatureFits m (feature.Attribute data_type default) = split-true (is_of_type data_type default)
+split-FeatureFits m (feature.Reference target containment lower upper) = split-× (split-≤ _ _) (split-IfSome (λ most. (0 < most) × (lower ≤ most)) upper (λ most. split-× (split-≤ _ _) (split-≤ _ _)))
+
+split-IsMeta : (m : Metamodel) → HasSplitSupport (IsMeta m)
+split-IsMeta m h = record {
+  names_differ = split-Differ (map (λ class. class.name) m.classes) (∥∥₁_map h (λ r. r.names_differ));
+  supers_stand = split-All (λ class. All (λ d. d < length m.classes) class.supers) m.classes (λ class. split-All (λ d. d < length m.classes) class.supers (λ d. split-≤ _ _)) (∥∥₁_map h (λ r. r.supers_stand));
+  no_cycle = split-→ _ (λ c. split-→ _ (λ d. split-→ _ (λ step. split-→ _ (λ back. split-⊥)))) (∥∥₁_map h (λ r. r.no_cycle));
+  owners_stand = split-All (λ feature. feature.owner < length m.classes) m.features (λ feature. split-≤ _ _) (∥∥₁_map h (λ r. r.owners_stand));
+  features_sound = split-All (λ feature. FeatureFits m feature.kind) m.features (λ feature. split-FeatureFits m feature.kind) (∥∥₁_map h (λ r. r.features_sound));
+  features_in_order = split-AllPairs StandBefore m.features split-StandBefore (∥∥₁_map h (λ r. r.features_in_order));
+  features_whole = split-→ _ (λ c. split-→ _ (λ low. split-IsSomeAnd (λ class. class.features ≡ each_once (flat_map (features_of m) class.supers) ++ owned_by m c) (class_at m c) (λ class. split-same (coded_list coded_ℕ) _ _))) (∥∥₁_map h (λ r. r.features_whole));
+  features_differ = split-All (λ class. Differ (map (λ f. option_map (λ feature. feature.name) (feature_at m f)) class.features)) m.classes (λ class. split-Differ (map (λ f. option_map (λ feature. feature.name) (feature_at m f)) class.features)) (∥∥₁_map h (λ r. r.features_differ));
+}
+
+split-IsSmallMeta : (m : Metamodel) → HasSplitSupport (IsSmallMeta m)
+split-IsSmallMeta m h = record {
+  classes = split-≤ _ _ (∥∥₁_map h (λ r. r.classes));
+  features = split-All (λ class. length class.features ≤ MAX_FEATURES) m.classes (λ class. split-≤ _ _) (∥∥₁_map h (λ r. r.features));
+}
+
+-- What the types of metamodels and of rule sets carry.
+pub meta_of_form : (m : Metamodel) → ∥ IsMeta m × IsSmallMeta m ∥₁ → IsMeta m × IsSmallMeta m
+meta_of_form m = split-× (split-IsMeta m) (split-IsSmallMeta m)
+
+pub set_of_form : (m : Metamodel) (rules : List Rule) (units : List RuleUnit) → ∥ IsMeta m × IsSmallMeta m × IsRuleSet m rules units ∥₁ → IsMeta m × IsSmallMeta m × IsRuleSet m rules units
+set_of_form m rules units = split-×₃ (split-IsMeta m) (split-IsSmallMeta m) (split-IsRuleSet m rules units)

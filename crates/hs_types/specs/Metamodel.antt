@@ -1,6 +1,6 @@
 -- Metamodels, after Ecore: classes with supertypes, and the attributes and references that they own.
-use Rattle.std.specs.Prelude.{ℕ, ◌^◌, ◌<◌, ◌≤◌, ◌≡◌, ◌⊎◌, List, [], ◌++◌, is_some, map, length, Bool, true, false, eqb, ◌||◌, nat_le, nat_lt, Option, Some, None, IsSomeAnd, IfSome, EachIndex, slice_get}
-use Rattle.std.specs.List.{All, AllPairs, filter, flat_map, list_all}
+use Rattle.std.specs.Prelude.{ℕ, ◌^◌, ◌<◌, ◌≤◌, ◌≡◌, ◌⊎◌, List, [], ◌++◌, is_some, map, length, Bool, true, false, eqb, ◌||◌, Option, Some, None, IsSomeAnd, IfSome, EachIndex, slice_get}
+use Rattle.std.specs.List.{All, AllPairs, filter, flat_map}
 use Rattle.std.specs.Option.{option_map, option_and_then, unwrap_or}
 use Rattle.hs_expr.specs.declared.value.Kind.{Kind}
 use Rattle.hs_expr.specs.declared.value.Kind.TheVariants as kind
@@ -26,14 +26,6 @@ feature_at m f = slice_get m.features f
 -- The numbers of each class's direct supertypes.
 abbrev pub supers_of : Metamodel → List (List ℕ)
 supers_of m = map (λ class. class.supers) m.classes
-
--- Each supertype is one of the classes.
-abbrev pub supers_are_classes : Metamodel → Bool
-supers_are_classes m = list_all (λ class. list_all (λ d. nat_lt d (length m.classes)) class.supers) m.classes
-
--- There are no more classes than class numbers, which have 16 bits.
-abbrev pub classes_are_numbered : Metamodel → Bool
-classes_are_numbered m = nat_le (length m.classes) 65536
 
 -- The class names d among its supertypes.
 abbrev pub HasSuper : Metamodel → ℕ → ℕ → Type 0

@@ -1,21 +1,18 @@
-ghost use Rattle.std.specs.Prelude.{◌≡◌, ◌↔◌, ◌≤◌, ◌&&◌, IsTrue, Some, None, true, length, map, nat_lt, if◌then◌else◌, IfOk};
-ghost use Rattle.std.specs.List.{list_all, position};
+ghost use Rattle.std.specs.Prelude.{◌≡◌, ◌↔◌, IsTrue};
+ghost use Rattle.std.specs.List.{position};
 ghost use Rattle.std.specs.Option.{option_copied};
 ghost use Rattle.hs_expr.specs.Lists.{same_text};
-ghost use Rattle.hs_types.specs.Metamodel.{Conforms, HaveCommon, IsConcrete, classes_are_numbered, supers_are_classes, supers_of, class_at, feature_at};
+ghost use Rattle.hs_types.specs.Limits.{IsSmallMeta};
+ghost use Rattle.hs_types.specs.Metamodel.{Conforms, HaveCommon, IsConcrete, IsMeta, supers_of, class_at, feature_at};
 ghost use Rattle.hs_types.specs.Reachability as spec;
 
-use crate::reachability::{is_in_row, reach_rows};
+use crate::reachability::is_in_row;
 use crate::{Class, ClassNo, Feature, FeatureNo, Metamodel};
 use hs_expr::{List, Text};
-use std::alloc::{AllocError, Global};
 use std::marker::Model;
 
-/// How many class numbers there are.
-pub const CLASS_NUMBERS: usize = 65_536;
-
 /// A metamodel with its conformance closed, so that one look tells whether a class conforms to
-/// another. Contracts see it as the plain [`Metamodel`].
+/// another. Contracts see it as the plain [`Metamodel`]; [`Meta::is_metamodel`] says that it is one.
 #[derive(Debug, Drop)]
 pub struct Meta {
     plain: Metamodel,
@@ -26,38 +23,35 @@ pub struct Meta {
 impl Model for Meta {
     ghost use Rattle.std.specs.Prelude.{◌≡◌, ◌≤◌, true, length};
     ghost use Rattle.hs_types.specs.declared.meta.Metamodel.{Metamodel};
-    ghost use Rattle.hs_types.specs.Metamodel.{supers_of, supers_are_classes};
+    ghost use Rattle.hs_types.specs.declared.limits.TheConstants.{MAX_CLASSES};
+    ghost use Rattle.hs_types.specs.Limits.{IsSmallMeta};
+    ghost use Rattle.hs_types.specs.Metamodel.{IsMeta, supers_of};
     ghost use Rattle.hs_types.specs.Reachability as supertypes;
 
     ghost Value = { Metamodel };
 
     ghost view = { λ meta. meta.plain };
 
-    ghost invariant = { λ meta. (supers_are_classes meta.plain ≡ true) × (meta.rows ≡ supertypes.reach_rows (supers_of meta.plain)) × (length meta.plain.classes ≤ 65536) };
+    ghost invariant = { λ meta. ∥ IsMeta meta.plain × IsSmallMeta meta.plain ∥₁ × (meta.rows ≡ supertypes.reach_rows (supers_of meta.plain)) × (length meta.plain.classes ≤ MAX_CLASSES) };
 }
 
 impl Meta {
-    /// The metamodel closed, or none where a supertype is no class of it, or there are more classes
-    /// than class numbers.
-    pub fn new(alloc: Global, plain: Metamodel) -> Result<Option<Meta>, AllocError>
-        ensures { IfOk result (λ made. made ≡ (if classes_are_numbered plain && supers_are_classes plain then Some plain else None)) }
-    {
-        let count = plain.classes.len();
-        if count > CLASS_NUMBERS || !are_below(plain.classes.as_slice(), count) {
-            return Ok(None);
-        }
-        let rows = closed_rows(alloc, plain.classes.as_slice())?;
-        Ok(Some(Meta::from_rows(plain, rows)))
-    }
-
     /// The metamodel, whose rows say of each class which classes reach it by supertypes.
     pub fn from_rows(plain: Metamodel, rows: List<List<bool>>) -> Meta
-        requires supers { supers_are_classes plain ≡ true }
+        requires sound { IsMeta plain }
+        requires small { IsSmallMeta plain }
         requires rows { rows ≡ spec.reach_rows (supers_of plain) }
-        requires numbered { length plain.classes ≤ 65536 }
         ensures { result ≡ plain }
     {
         Meta { plain, rows }
+    }
+
+    /// What its type carries: it is a metamodel, within the limits.
+    pub fn is_metamodel(&self)
+        ensures sound { IsMeta self.now }
+        ensures small { IsSmallMeta self.now }
+    {
+        let _ = &self.plain;
     }
 
     /// The metamodel as plain data.
@@ -146,48 +140,4 @@ fn place_of_class(classes: &[Class], name: &Text) -> Option<usize>
     ensures { result ≡ position (λ class. same_text name.now class.name) classes.now }
 {
     classes.iter().position(|class| *name == class.name)
-}
-
-/// Whether all supertypes are below the count.
-fn are_below(classes: &[Class], count: usize) -> bool
-    ensures { result ≡ list_all (λ class. list_all (λ d. nat_lt d count) class.supers) classes.now }
-{
-    classes
-        .iter()
-        .all(|class| supers_are_below(class.supers.as_slice(), count))
-}
-
-fn supers_are_below(supers: &[ClassNo], count: usize) -> bool
-    ensures { result ≡ list_all (λ d. nat_lt d count) supers.now }
-{
-    supers.iter().all(|d| usize::from(*d) < count)
-}
-
-/// For each class a row that says of every class whether it is below that one.
-fn closed_rows(alloc: Global, classes: &[Class]) -> Result<List<List<bool>>, AllocError>
-    ensures { IfOk result (λ rows. rows ≡ spec.reach_rows (map (λ class. class.supers) classes.now)) }
-{
-    let supers = supers_of(alloc, classes)?;
-    reach_rows(alloc, supers.as_slice())
-}
-
-/// The numbers of each class's supertypes.
-fn supers_of(alloc: Global, classes: &[Class]) -> Result<List<List<usize>>, AllocError>
-    ensures { IfOk result (λ supers. supers ≡ map (λ class. class.supers) classes.now) }
-{
-    let mut supers = List::new(alloc);
-    for class in classes {
-        supers.push(numbers_of(alloc, class.supers.as_slice())?)?;
-    }
-    Ok(supers)
-}
-
-fn numbers_of(alloc: Global, supers: &[ClassNo]) -> Result<List<usize>, AllocError>
-    ensures { IfOk result (λ numbers. numbers ≡ supers.now) }
-{
-    let mut numbers = List::new(alloc);
-    for d in supers {
-        numbers.push(usize::from(*d))?;
-    }
-    Ok(numbers)
 }
