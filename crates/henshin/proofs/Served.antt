@@ -51,13 +51,12 @@ both_so rule e =
     let parts = and_parts (only_adds rule) (is_empty rule.params) e in
     (only_adds-fact rule parts.0, empty rule.params parts.1)
 
-runnable : (m : Metamodel) (g : Graph) (rule : Rule) → IsSound m g → IsRule m rule → IsSmallRule rule → is_built_rule rule ≡ true → IsRunnable m g rule
-runnable m g rule sound formed small bare =
+runnable : (m : Metamodel) (g : Graph) (rule : Rule) → IsSound m g → IsSmallRule rule → is_built_rule rule ≡ true → IsRunnable g rule
+runnable m g rule sound small bare =
     let only = both_so rule bare in
     let few_nodes = small.kernel.few_nodes in
     let few_edges = small.kernel.few_edges in
     record {
-      well_formed = formed;
       no_params = only.1;
       only_adds = only.0;
       small = omega (arith, length-filter-le (λ (node : PatternNode). is_left node.mark) rule.shape.nodes, length-filter-le (λ (edge : PatternEdge). is_left edge.mark) rule.shape.edges, few_nodes, few_edges);
@@ -139,11 +138,11 @@ pub no_arguments : (rules : List Rule) (sessions : List (List Request)) (request
 no_arguments rules sessions request only = ap (λ (r : Request). r.args) only.is_plain
 
 -- It can be run.
-pub can_run : (m : Metamodel) (g : Graph) (rules : List Rule) (units : List RuleUnit) (sessions : List (List Request)) (request : Request) → IsOnly rules sessions request → IsSound m g → IsRuleSet m rules units → IsSomeAnd (slice_get rules 0) (IsRunnable m g)
+pub can_run : (m : Metamodel) (g : Graph) (rules : List Rule) (units : List RuleUnit) (sessions : List (List Request)) (request : Request) → IsOnly rules sessions request → IsSound m g → IsRuleSet m rules units → IsSomeAnd (slice_get rules 0) (IsRunnable g)
 can_run m g rules units sessions request only sound set =
     let first : slice_get rules 0 ≡ Some only.rule = ap (λ (rs : List Rule). slice_get rs 0) only.is_only in
     let has = All-at (λ (rule : Rule). IsRule m rule × IsSmallRule rule) rules 0 only.rule set.are_rules first in
-    rw first (runnable m g only.rule sound has.0 has.1 only.is_built)
+    rw first (runnable m g only.rule sound has.1 only.is_built)
 
 -- ---- bytes that were read
 

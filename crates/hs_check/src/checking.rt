@@ -3,8 +3,7 @@
 ghost use Rattle.std.specs.Prelude.{◌≡◌, IfOk, Ok};
 ghost use Rattle.std.specs.Arc.{arc_value};
 ghost use Rattle.hs_expr.specs.Verdict.{verdict};
-ghost use Rattle.hs_types.specs.Metamodel.{IsMeta};
-ghost use Rattle.hs_types.specs.UnitForm.{IsRuleSet};
+ghost use Rattle.hs_types.specs.Journal.{meta_of};
 ghost use Rattle.hs_expr.specs.Steps.{GivesWhere};
 ghost use Rattle.hs_faults.specs.UnitFaults.{faults_of};
 ghost use Rattle.hs_check.specs.Counts.{KeepAll};
@@ -22,7 +21,7 @@ use std::sync::Arc;
 
 /// The rules and the units that a text means over the metamodel, which the set shares; or the text's
 /// first fault: all rules come before all units, and of each the parts stand in written order. The
-/// limits of rules and units are among the faults. Over a sound metamodel the set is well formed, so
+/// limits of rules and units are among the faults. The set is well formed, as its type says, so
 /// nothing has to test it again. Each condition and each set of the text is in the set, and the
 /// classes, nodes, references and attributes that parameters, declarations, edges and sets name are
 /// found, and the rules and units that calls name.
@@ -32,8 +31,7 @@ pub fn check(
     syntax: &Syntax,
 ) -> Result<RuleSet, Failure<RuleFault>>
     ensures set { GivesWhere (IsMeant (arc_value meta.now) syntax.now.definitions) result (verdict (faults_of (arc_value meta.now) syntax.now.definitions)) }
-    ensures meta { IfOk result (λ set. arc_value set.meta ≡ arc_value meta.now) }
-    ensures formed { IsMeta (arc_value meta.now) → IfOk result (λ set. IsRuleSet (arc_value meta.now) set.rules set.units) }
+    ensures meta { IfOk result (λ set. meta_of set ≡ arc_value meta.now) }
     ensures whole { IfOk result (λ set. KeepAll syntax.now.definitions set.rules) }
     ensures found { IfOk result (λ set. Resolve (arc_value meta.now) syntax.now.definitions) }
 {
@@ -42,17 +40,16 @@ pub fn check(
     Ok(set)
 }
 
+/// The rules and the units that a text without faults means.
 #[tactic(auto, using(hs_expr::proofs::Lists::all_from_recursion))]
 fn set_meant(alloc: Global, meta: &Arc<Meta>, syntax: &Syntax) -> Result<RuleSet, AllocError>
+    requires { verdict (faults_of (arc_value meta.now) syntax.now.definitions) ≡ Ok tt }
     ensures set { IfOk result (IsMeant (arc_value meta.now) syntax.now.definitions) }
-    ensures meta { IfOk result (λ set. arc_value set.meta ≡ arc_value meta.now) }
-    ensures formed { verdict (faults_of (arc_value meta.now) syntax.now.definitions) ≡ Ok tt → IsMeta (arc_value meta.now)
-        → IfOk result (λ set. IsRuleSet (arc_value meta.now) set.rules set.units) }
-    ensures whole { verdict (faults_of (arc_value meta.now) syntax.now.definitions) ≡ Ok tt
-        → IfOk result (λ set. KeepAll syntax.now.definitions set.rules) }
-    ensures found { verdict (faults_of (arc_value meta.now) syntax.now.definitions) ≡ Ok tt
-        → IfOk result (λ set. Resolve (arc_value meta.now) syntax.now.definitions) }
+    ensures meta { IfOk result (λ set. meta_of set ≡ arc_value meta.now) }
+    ensures whole { IfOk result (λ set. KeepAll syntax.now.definitions set.rules) }
+    ensures found { Resolve (arc_value meta.now) syntax.now.definitions }
 {
+    meta.is_metamodel();
     let definitions = syntax.definitions.as_slice();
     Ok(RuleSet {
         meta: meta.clone()?,

@@ -4,8 +4,6 @@ ghost use Rattle.std.specs.Str.{chars};
 ghost use Rattle.hs_expr.specs.Verdict.{verdict};
 ghost use Rattle.hs_text.specs.Parsing.{IsSyntaxOf};
 ghost use Rattle.hs_types.specs.Journal.{meta_of};
-ghost use Rattle.hs_types.specs.Metamodel.{IsMeta};
-ghost use Rattle.hs_types.specs.UnitForm.{IsRuleSet};
 ghost use Rattle.hs_json.specs.Reading.{Contents, IsBundleAnswer, contents};
 ghost use Rattle.hs_json_model.specs.Sound.{IsSound};
 ghost use Rattle.hs_faults.specs.UnitFaults.{faults_of};
@@ -45,7 +43,6 @@ pub struct Input {
 pub fn read_input(alloc: Global, bytes: &[u8]) -> Result<Input, Failure<Refusal>>
     ensures read { IfOk result (λ input. (held : Contents) × IsInput bytes.now held input) }
     ensures sound { IfOk result (λ input. IsSound (arc_value input.graph.meta) input.graph.graph) }
-    ensures formed { IfOk result (λ input. IsRuleSet (meta_of input.rules) input.rules.rules input.rules.units) }
     ensures refused { Tells bytes.now result }
 {
     let Bundle {
@@ -101,7 +98,6 @@ fn rules_of(alloc: Global, meta: &Arc<Meta>, syntax: &Syntax) -> Result<RuleSet,
     ensures right { IfOk result (λ set. verdict (faults_of (arc_value meta.now) syntax.now.definitions) ≡ Ok tt) }
     ensures meant { IfOk result (IsMeant (arc_value meta.now) syntax.now.definitions) }
     ensures model { IfOk result (λ set. meta_of set ≡ arc_value meta.now) }
-    ensures formed { IsMeta (arc_value meta.now) → IfOk result (λ set. IsRuleSet (arc_value meta.now) set.rules set.units) }
     ensures refused { (bytes : List ℕ) (held : Contents) → held.meta ≡ arc_value meta.now → IsBundleAnswer bytes (Ok held) → IsSyntaxOf (chars held.rules) syntax.now → Tells bytes result }
 {
     fault_as(

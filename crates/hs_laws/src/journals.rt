@@ -1,5 +1,4 @@
 ghost use Rattle.std.specs.Prelude.{◌≡◌, ◌++◌, ◌∷◌, ℕ, List, [], length, take};
-ghost use Rattle.std.specs.List.{All};
 ghost use Rattle.hs_types.specs.declared.entry.Cause.{Cause};
 ghost use Rattle.hs_types.specs.declared.entry.Entry.{Entry};
 ghost use Rattle.hs_types.specs.declared.entry.Outcome.TheVariants.{Missed};
@@ -7,19 +6,20 @@ ghost use Rattle.hs_types.specs.declared.entry.Tried.{Tried};
 ghost use Rattle.hs_types.specs.declared.graph.Graph.{Graph};
 ghost use Rattle.hs_types.specs.declared.rule_set.RuleSet.{RuleSet};
 ghost use Rattle.hs_types.specs.Journal.{IsLawful, IsLawfulEntry, IsLawfulWritten, IsUnlawfulAt, after_entry, after_journal, after_try, meta_of};
-ghost use Rattle.hs_types.specs.Metamodel.{IsMeta};
-ghost use Rattle.hs_types.specs.RuleForm.{IsRule};
 ghost use Rattle.hs_types.specs.TypedGraph.{IsTyped};
+
+use hs_types::rule_sets_are_formed;
 
 /// What stands in front in a lawful journal is lawful, and the graph at each of its places is typed.
 pub fn journals_stay_lawful()
     ensures prefixes { (set : RuleSet) (opening : Graph) (entries : List Entry) (n : ℕ)
         → IsLawful set opening entries → IsLawful set opening (take n entries) }
     ensures typed { (set : RuleSet) (opening : Graph) (entries : List Entry) (n : ℕ)
-        → IsMeta (meta_of set) → All (IsRule (meta_of set)) set.rules → IsTyped (meta_of set) opening
-        → IsLawful set opening entries
+        → IsTyped (meta_of set) opening → IsLawful set opening entries
         → IsTyped (meta_of set) (after_journal set opening (take n entries)) }
-{}
+{
+    rule_sets_are_formed();
+}
 
 /// A lawful journal goes on with each entry that is lawful behind it, and its graph with the entry's.
 pub fn journals_go_on()

@@ -12,4 +12,3 @@ pub mod MeantMeta
 pub mod MeantFeatures
 pub mod IsMeta
 pub mod Repeats
-pub mod NoneMissing

@@ -8,7 +8,7 @@ use Rattle.std.specs.List.{All}
 use Rattle.std.specs.Option.{option_map}
 use Rattle.hs_types.specs.declared.meta.Class.{Class}
 use Rattle.hs_expr.specs.Lists.{Differ, has, same_text}
-use Rattle.hs_types.specs.Metamodel.{Conforms, HasSuper, above, class_at, itself}
+use Rattle.hs_types.specs.Metamodel.{Conforms, HasSuper, above, class_at, itself, supers_of}
 use Rattle.hs_meta.specs.declared.raw.RawClass.{RawClass}
 use Rattle.hs_meta.specs.declared.raw.RawMeta.{RawMeta}
 use Rattle.hs_meta.specs.Meaning.{class_of_raw, direct_supers, metamodel_of}
@@ -29,6 +29,10 @@ class_meant raw c class at = items.each_one_at (class_of_raw raw.classes) raw.cl
 
 pub classes_long : (raw : RawMeta) → length (metamodel_of raw).classes ≡ length raw.classes
 classes_long raw = items.length-each_one (class_of_raw raw.classes) 0 raw.classes
+
+-- The supertypes of the metamodel are the written ones.
+pub supers_written : (raw : RawMeta) → supers_of (metamodel_of raw) ≡ written_supers raw.classes
+supers_written raw = items.map-each_one (λ (class : Class). class.supers) (direct_supers raw.classes) (class_of_raw raw.classes) 0 raw.classes (λ c class. refl)
 
 -- Each class that is denoted is the meaning of a written one.
 pub class_written : (raw : RawMeta) (c : ℕ) (made : Class) → class_at (metamodel_of raw) c ≡ Some made → (class : RawClass) × (slice_get raw.classes c ≡ Some class) × (made ≡ class_of_raw raw.classes c class)

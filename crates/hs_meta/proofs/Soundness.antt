@@ -1,11 +1,12 @@
 -- What it says of classes that there is no fault.
-use Rattle.std.proofs.Common.{ℕ, zero, suc, ◌+◌, ◌≤◌, ◌≡◌, ◌++◌, List, [], ◌∷◌, true, false, not, eqb, nat_lt, length, slice_get, Some, is_some, refl, ap, sym, ◌∙◌, arith, zero-add, length-append, get_or, map, take, if◌then◌else◌}
+use Rattle.std.proofs.Common.{ℕ, zero, suc, ◌+◌, ◌*◌, ◌≤◌, ◌≡◌, ◌++◌, List, [], ◌∷◌, true, false, not, eqb, nat_lt, length, slice_get, Some, is_some, refl, ap, sym, ◌∙◌, arith, zero-add, length-append, get_or, map, take, if◌then◌else◌}
 use Rattle.std.proofs.lemmas.Bool.{ltb-false, not-false, eq-eqb, or_left}
 use Rattle.std.proofs.lemmas.Option.{slice_get-get_or}
 use Rattle.std.proofs.lemmas.List.{length-map}
 use Rattle.std.proofs.lemmas.List.Sums.{sum_by-le}
 use Rattle.std.specs.List.{All, sum_by}
 use Rattle.hs_expr.specs.Verdict.{each, each_from, fault_if}
+use Rattle.hs_types.specs.declared.limits.TheConstants.{MAX_CLASSES, MAX_FEATURES}
 use Rattle.hs_meta.specs.declared.fault.ModelFaultKind.TheVariants as kind
 use Rattle.hs_meta.specs.declared.fault.ModelPlace.TheVariants as place
 use Rattle.hs_meta.specs.declared.raw.RawAttribute.{RawAttribute}
@@ -96,7 +97,7 @@ own_within classes c class at =
     omega (arith, own, here, found_within names_of 0 classes c class at)
 
 -- All classes together own no more features than can be numbered.
-pub own_few : (classes : List RawClass) → AreSound classes → sum_by own_count classes ≤ 65536
+pub own_few : (classes : List RawClass) → AreSound classes → sum_by own_count classes ≤ MAX_CLASSES * MAX_FEATURES
 own_few classes s =
     let each_few : All (λ class. own_count class ≤ 64) classes = λ k d h. let at = slice_get-get_or classes k d h in let a = own_within classes k (get_or classes k d) at in let b = s.few_features k (get_or classes k d) at in omega arith in
     let all = sum_by-le own_count 64 classes each_few in

@@ -1,9 +1,10 @@
 //! The numbers of features: of those that classes own, and of those that they inherit.
 
-ghost use Rattle.std.specs.Prelude.{◌≡◌, ◌+◌, ◌∷◌, ◌++◌, ◌<◌, ◌≤◌, ℕ, List, [], map, not, length, get_or, slice_set, sum_by, count_by, IfOk, OnOk};
+ghost use Rattle.std.specs.Prelude.{◌≡◌, ◌+◌, ◌*◌, ◌∷◌, ◌++◌, ◌<◌, ◌≤◌, ℕ, List, [], map, not, length, get_or, slice_set, sum_by, count_by, IfOk, OnOk};
 ghost use Rattle.std.specs.List.{All, flat_map, range_with_len};
 ghost use Rattle.hs_expr.specs.Lists as lists;
 ghost use Rattle.hs_expr.specs.Lists.{each_once};
+ghost use Rattle.hs_types.specs.declared.limits.TheConstants.{MAX_CLASSES, MAX_FEATURES};
 ghost use Rattle.hs_meta.specs.Inheriting as inheriting;
 ghost use Rattle.hs_meta.specs.Meaning as meaning;
 ghost use Rattle.hs_meta.specs.Ranks as spec;
@@ -15,7 +16,7 @@ use std::alloc::{AllocError, Global};
 
 /// The numbers of the features that each class owns.
 pub fn own_numbers(alloc: Global, classes: &[RawClass]) -> Result<List<List<FeatureNo>>, AllocError>
-    requires { sum_by meaning.own_count classes.now ≤ 65536 }
+    requires { sum_by meaning.own_count classes.now ≤ MAX_CLASSES * MAX_FEATURES }
     ensures { IfOk result (λ own. own ≡ meaning.own_numbers classes.now) }
 {
     let mut own = List::new(alloc);
@@ -31,7 +32,7 @@ pub fn own_numbers(alloc: Global, classes: &[RawClass]) -> Result<List<List<Feat
 /// So many numbers from the first on.
 #[tactic(auto, using(crate::proofs::Rowed::one_number_more))]
 fn numbers_from(alloc: Global, first: usize, count: usize) -> Result<List<FeatureNo>, AllocError>
-    requires { first + count ≤ 65536 }
+    requires { first + count ≤ MAX_CLASSES * MAX_FEATURES }
     ensures { IfOk result (λ numbers. numbers ≡ range_with_len first count) }
 {
     let mut numbers = List::new(alloc);

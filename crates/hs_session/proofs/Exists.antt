@@ -46,14 +46,14 @@ told_missed m g rule none cause.Valid = none
 told_missed m g rule none cause.New = tt
 told_missed m g rule none cause.Old = tt
 
-told : AdditionsOnlyMake → (m : Metamodel) (g : Graph) (rule : Rule) (answer : Option Match) → IsTyped m g → IsRunnable m g rule → IsFirst m g rule no_args answer → (asked : Cause) → OutcomeAsks m g rule no_args (outcome_of m g rule answer) asked
+told : AdditionsOnlyMake → (m : Metamodel) (g : Graph) (rule : Rule) (answer : Option Match) → IsTyped m g → IsRunnable g rule → IsFirst m g rule no_args answer → (asked : Cause) → OutcomeAsks m g rule no_args (outcome_of m g rule answer) asked
 unfolding outcome_of names_at
 told adds m g rule None typed runs none = told_missed m g rule none
 told adds m g rule (Some f) typed runs least =
     let made = adds m g rule f runs.only_adds in
     applied_asks m g rule f (plan_of m g rule no_args f) (names_at g f) (new_names g (plan_of m g rule no_args f)) refl made.0 least.valid (named_again m g rule f typed runs.only_adds.is_unconditional.multis least.valid) refl (within_numbers g rule (plan_of m g rule no_args f) runs.room made.1 made.2)
 
-least_of : (m : Metamodel) (g : Graph) (rule : Rule) (answer : Option Match) → IsTyped m g → IsRunnable m g rule → IsFirst m g rule no_args answer → IsLeastOutcome m g rule no_args (outcome_of m g rule answer)
+least_of : (m : Metamodel) (g : Graph) (rule : Rule) (answer : Option Match) → IsTyped m g → IsRunnable g rule → IsFirst m g rule no_args answer → IsLeastOutcome m g rule no_args (outcome_of m g rule answer)
 unfolding outcome_of names_at
 least_of m g rule None typed runs none = tt
 least_of m g rule (Some f) typed runs least = rw (named_again m g rule f typed runs.only_adds.is_unconditional.multis least.valid) least
@@ -63,7 +63,7 @@ had_memory (Applied found new old gone) e = cc
 had_memory Missed e = cc
 
 pub one_exists : (rules : RuleSet) (opening : Graph) (request : Request) (called : ℕ) (rule : Rule) (answer : Option Match) → IsTyped (meta_of rules) opening →
-    rule_named rules request.call ≡ Some called → slice_get rules.rules called ≡ Some rule → IsRunnable (meta_of rules) opening rule → request.args ≡ no_args → AdditionsOnlyMake → IsFirst (meta_of rules) opening rule no_args answer →
+    rule_named rules request.call ≡ Some called → slice_get rules.rules called ≡ Some rule → IsRunnable opening rule → request.args ≡ no_args → AdditionsOnlyMake → IsFirst (meta_of rules) opening rule no_args answer →
     (report : Report) × IsSerialReport rules opening ((request ∷ []) ∷ []) report × HadMemory report
 one_exists rules opening request called rule answer typed named found runs args adds first =
     let outcome = outcome_of (meta_of rules) opening rule answer in

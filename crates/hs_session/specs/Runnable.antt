@@ -4,9 +4,7 @@ use Rattle.hs_types.specs.declared.limits.TheConstants.{MAX_NUMBERS}
 use Rattle.hs_types.specs.declared.entry.Outcome.{Outcome}
 use Rattle.hs_types.specs.declared.entry.Outcome.TheVariants.{Applied, Missed}
 use Rattle.hs_types.specs.declared.graph.Graph.{Graph}
-use Rattle.hs_types.specs.declared.meta.Metamodel.{Metamodel}
 use Rattle.hs_types.specs.declared.rule.Rule.{Rule}
-use Rattle.hs_types.specs.RuleForm.{IsRule}
 use Rattle.hs_types.specs.Additions.{OnlyAdds}
 use Rattle.hs_match.specs.FirstMatch.{IsSmall}
 use Rattle.hs_session.specs.declared.report.Word.{Word}
@@ -18,9 +16,8 @@ pub record HasRoomFor (g : Graph) (rule : Rule) : Type 0 where
   pub edges : g.next_edge + length rule.shape.edges ≤ MAX_NUMBERS
   pub names : g.next_name + length rule.shape.nodes ≤ 2 ^ 63
 
--- A rule of the metamodel, without parameters, that only adds; few enough elements for a search, and room for what it makes.
-pub record IsRunnable (m : Metamodel) (g : Graph) (rule : Rule) : Type 0 where
-  pub well_formed : IsRule m rule
+-- A rule without parameters that only adds; few enough elements for a search, and room for what it makes.
+pub record IsRunnable (g : Graph) (rule : Rule) : Type 0 where
   pub no_params : rule.params ≡ []
   pub only_adds : OnlyAdds rule
   pub small : IsSmall rule.shape

@@ -3,7 +3,7 @@ ghost use Rattle.std.specs.Arc.{arc_value};
 ghost use Rattle.std.specs.List.{All, filter_map};
 ghost use Rattle.hs_types.specs.declared.entry.Cause.{Cause};
 ghost use Rattle.hs_types.specs.Journal.{OutcomeAsks, after_outcome, match_named, meta_of};
-ghost use Rattle.hs_types.specs.Metamodel.{IsMeta};
+ghost use Rattle.hs_types.specs.RuleForm.{IsRule};
 ghost use Rattle.hs_types.specs.TypedGraph.{IsTyped, name_at};
 ghost use Rattle.hs_types.specs.ValidMatch.{IsLeast, IsValid};
 ghost use Rattle.hs_types.specs.Arguments.{no_args};
@@ -19,7 +19,7 @@ use hs_laws::plans_fit;
 use hs_match::first_match;
 use hs_types::{
     Entry, Graph, ListGraph, Match, MatchNames, Meta, ObjectNo, Outcome, Request, Rule, RuleSet,
-    Tried, What,
+    Tried, What, rule_sets_are_formed,
 };
 use std::alloc::{AllocError, Global};
 
@@ -39,14 +39,14 @@ pub fn run_serial(
     called: u16,
     request: &Request,
 ) -> Result<Report, AllocError>
-    requires model { IsMeta (meta_of rules.now) }
     requires same_model { arc_value graph.meta ≡ meta_of rules.now }
     requires typed { IsTyped (meta_of rules.now) graph.graph }
     requires called { rule_named rules.now request.now.call ≡ Some called }
-    requires runnable { IsSomeAnd (slice_get rules.now.rules called) (IsRunnable (meta_of rules.now) graph.graph) }
+    requires runnable { IsSomeAnd (slice_get rules.now.rules called) (IsRunnable graph.graph) }
     requires no_arguments { request.now.args ≡ no_args }
     ensures { IfOk result (IsSerialReport rules.now graph.graph ((request.now ∷ []) ∷ [])) }
 {
+    rule_sets_are_formed();
     let ListGraph { meta, graph } = graph;
     let rule = rule_at(rules, called);
     let Attempted { outcome, graph } = attempt(alloc, &meta, graph, rule)?;
@@ -130,9 +130,9 @@ fn word_for(outcome: &Outcome) -> Word
 
 /// Applies the rule at its least valid match, or misses where there is none.
 fn attempt(alloc: Global, meta: &Meta, graph: Graph, rule: &Rule) -> Result<Attempted, AllocError>
-    requires model { IsMeta meta.now }
+    requires form { IsRule meta.now rule.now }
     requires typed { IsTyped meta.now graph }
-    requires runnable { IsRunnable meta.now graph rule.now }
+    requires runnable { IsRunnable graph rule.now }
     ensures lawful { IfOk result (λ a. (asked : Cause) → OutcomeAsks meta.now graph rule.now no_args a.outcome asked) }
     ensures least { IfOk result (λ a. IsLeastOutcome meta.now graph rule.now no_args a.outcome) }
     ensures after { IfOk result (λ a. a.graph ≡ after_outcome meta.now graph rule.now no_args a.outcome) }
@@ -153,15 +153,16 @@ fn applied(
     rule: &Rule,
     found: Match,
 ) -> Result<Attempted, AllocError>
-    requires model { IsMeta meta.now }
+    requires form { IsRule meta.now rule.now }
     requires typed { IsTyped meta.now graph }
-    requires runnable { IsRunnable meta.now graph rule.now }
+    requires runnable { IsRunnable graph rule.now }
     requires least { IsLeast meta.now graph rule.now no_args found }
     ensures lawful { IfOk result (λ a. (asked : Cause) → OutcomeAsks meta.now graph rule.now no_args a.outcome asked) }
     ensures least { IfOk result (λ a. IsLeastOutcome meta.now graph rule.now no_args a.outcome) }
     ensures after { IfOk result (λ a. a.graph ≡ after_outcome meta.now graph rule.now no_args a.outcome) }
 {
     // The laws on plans are what `install` asks.
+    meta.is_metamodel();
     plans_fit();
     let plan = plan(alloc, meta, rule, &found)?;
     let found = names_of_match(alloc, meta, &graph, rule, found)?;

@@ -15,7 +15,7 @@ pub run_serial-requires-clause-runnable : goal.run_serial-requires-clause-runnab
 run_serial-requires-clause-runnable c =
     can_run (meta_of c.args.rules.now) c.args.graph.graph c.args.rules.now.rules c.args.rules.now.units c.args.sessions.now c.in-Some.request.now
     (one_request c.args.rules.now.rules c.args.rules.now.units c.requires.asked.0 c.requires.asked.1 c.args.sessions.now c.in-Some.request.now c.requires.asked.2 (ap option_copied (sym c.in-Some.is) ∙ c.first_request.ensures))
-    (subst (λ (m : Metamodel). IsSound m c.args.graph.graph) c.requires.same_model c.requires.sound) c.requires.formed
+    (subst (λ (m : Metamodel). IsSound m c.args.graph.graph) c.requires.same_model c.requires.sound) (c.rule_sets_are_formed.ensures.formed c.args.rules.now)
 
 pub run_serial-requires-clause-no_arguments : goal.run_serial-requires-clause-no_arguments
 run_serial-requires-clause-no_arguments c =

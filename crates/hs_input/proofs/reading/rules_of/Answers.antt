@@ -28,9 +28,6 @@ returns-clause-meant c = rw (c.fault_as.ensures BadRule (λ fault made h. h)) (o
 pub returns-clause-model : goal.returns-clause-model
 returns-clause-model c = rw (c.fault_as.ensures BadRule (λ fault made h. h)) (ok_as _ BadRule c.check.result c.check.ensures.meta)
 
-pub returns-clause-formed : goal.returns-clause-formed
-returns-clause-formed c = λ is. rw (c.fault_as.ensures BadRule (λ fault made h. h)) (ok_as _ BadRule c.check.result (c.check.ensures.formed is))
-
 pub returns-clause-refused : goal.returns-clause-refused
 returns-clause-refused c = λ bytes held same answer is_syntax. rw (c.fault_as.ensures BadRule (λ fault made h. h))
     (told_as bytes BadRule c.check.result (λ fault is.

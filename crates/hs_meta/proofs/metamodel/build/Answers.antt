@@ -8,13 +8,18 @@ use Rattle.hs_meta.specs.Meaning.{metamodel_of}
 use Rattle.hs_meta.specs.WrittenSupers.{supers_found}
 use Rattle.hs_expr.proofs.Faults.{none-from_value, same-from_value, value-from_none}
 use Rattle.hs_meta.proofs.IsMeta.{metamodel_of-is_meta, metamodel_of-is_small}
-use Rattle.hs_meta.proofs.NoneMissing.{supers_stand, supers_written}
+use Rattle.hs_meta.proofs.MeantMeta.{supers_written}
 use Rattle.hs_meta.proofs.metamodel.build.Goals as goal
 
-pub from_rows-requires-clause-supers : goal.from_rows-requires-clause-supers
-from_rows-requires-clause-supers c =
+pub from_rows-requires-clause-sound : goal.from_rows-requires-clause-sound
+from_rows-requires-clause-sound c =
     let none : model_faults c.args.raw.classes ≡ [] = ap model_faults (sym c.as_slice.ensures) ∙ none-from_value _ _ _ c.in_ok-supers.ensures in
-    rw c.in_ok-plain.ensures (supers_stand c.args.raw none)
+    rw c.in_ok-plain.ensures (metamodel_of-is_meta c.args.raw none)
+
+pub from_rows-requires-clause-small : goal.from_rows-requires-clause-small
+from_rows-requires-clause-small c =
+    let none : model_faults c.args.raw.classes ≡ [] = ap model_faults (sym c.as_slice.ensures) ∙ none-from_value _ _ _ c.in_ok-supers.ensures in
+    rw c.in_ok-plain.ensures (metamodel_of-is_small c.args.raw none)
 
 pub from_rows-requires-clause-rows : goal.from_rows-requires-clause-rows
 from_rows-requires-clause-rows c =
@@ -22,12 +27,6 @@ from_rows-requires-clause-rows c =
     ap (λ (s : Supers). s.rows) found
     ∙ ap reach_rows (sym (supers_written c.args.raw))
     ∙ ap (λ m. reach_rows (supers_of m)) (sym c.in_ok-plain.ensures)
-
-pub from_rows-requires-clause-numbered : goal.from_rows-requires-clause-numbered
-from_rows-requires-clause-numbered c =
-    let none : model_faults c.args.raw.classes ≡ [] = ap model_faults (sym c.as_slice.ensures) ∙ none-from_value _ _ _ c.in_ok-supers.ensures in
-    let few : length (metamodel_of c.args.raw).classes ≤ 256 = (metamodel_of-is_small c.args.raw none).classes in
-    rw c.in_ok-plain.ensures (omega (arith, few))
 
 pub returns-clause-built : goal.returns-clause-built
 returns-clause-built c =

@@ -15,7 +15,7 @@ returns-clause-exists c =
     let rules = c.args.rules.now in
     let rule = c.rule_at.result.now in
     let model : c.deref.result.now ≡ meta_of rules = c.deref.ensures ∙ c.requires.same_model in
-    let runs : IsRunnable (meta_of rules) c.args.graph.now.graph rule = subst (λ (r : Option Rule). IsSomeAnd r (IsRunnable (meta_of rules) c.args.graph.now.graph)) c.rule_at.ensures c.requires.runnable in
+    let runs : IsRunnable c.args.graph.now.graph rule = subst (λ (r : Option Rule). IsSomeAnd r (IsRunnable c.args.graph.now.graph)) c.rule_at.ensures c.requires.runnable in
     let answer = c.is_applicable.ensures in
     one_exists rules c.args.graph.now.graph c.args.request.now c.args.called rule answer.0 c.requires.typed c.requires.called c.rule_at.ensures runs c.requires.no_arguments
     c.additions_only_make.ensures

@@ -3,7 +3,7 @@ use Rattle.hs_session.proofs.Attempts.{after_applied, applied_asks, within_numbe
 use Rattle.hs_session.proofs.serial.applied.Goals as goal
 
 pub install-requires-clause-fits : goal.install-requires-clause-fits
-install-requires-clause-fits c = (c.args.meta.now, rw (c.in_ok-plan.ensures.plan c.args.graph) (c.plans_fit.ensures c.args.meta.now c.args.graph c.args.rule.now no_args c.args.found c.requires.model c.requires.runnable.well_formed c.requires.typed c.requires.least.valid))
+install-requires-clause-fits c = (c.args.meta.now, rw (c.in_ok-plan.ensures.plan c.args.graph) (c.plans_fit.ensures c.args.meta.now c.args.graph c.args.rule.now no_args c.args.found c.is_metamodel.ensures.sound c.requires.form c.requires.typed c.requires.least.valid))
 
 pub returns-clause-lawful : goal.returns-clause-lawful
 returns-clause-lawful c =

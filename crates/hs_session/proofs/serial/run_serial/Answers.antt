@@ -2,9 +2,20 @@ use Rattle.std.proofs.Common.{◌≡◌, ap, sym, ◌∙◌, Some, IsSomeAnd, su
 use Rattle.std.specs.Prelude.{Option}
 use Rattle.hs_types.specs.declared.rule.Rule.{Rule}
 use Rattle.hs_types.specs.Journal.{meta_of}
+use Rattle.hs_types.specs.Limits.{IsSmallRule}
+use Rattle.hs_types.specs.RuleForm.{IsRule}
+use Rattle.hs_expr.proofs.Items.{All-at}
 use Rattle.hs_session.specs.Runnable.{IsRunnable}
 use Rattle.hs_session.proofs.Served.{Made, serial_told}
 use Rattle.hs_session.proofs.serial.run_serial.Goals as goal
+
+pub attempt-requires-clause-form : goal.attempt-requires-clause-form
+attempt-requires-clause-form c =
+    let rules = c.args.rules.now in
+    let rule = c.rule_at-rule.result.now in
+    let model : c.deref.result.now ≡ meta_of rules = c.deref.ensures ∙ c.requires.same_model in
+    let formed = All-at (λ rule. IsRule (meta_of rules) rule × IsSmallRule rule) rules.rules c.args.called rule (c.rule_sets_are_formed.ensures.formed rules).are_rules c.rule_at-rule.ensures in
+    rw model formed.0
 
 pub returns : goal.returns
 returns c =
@@ -12,7 +23,7 @@ returns c =
     let rule = c.rule_at-rule.result.now in
     let tried = c.in_ok-tried.tried in
     let model : c.deref.result.now ≡ meta_of rules = c.deref.ensures ∙ c.requires.same_model in
-    let runs : IsRunnable (meta_of rules) c.args.graph.graph rule = subst (λ (r : Option Rule). IsSomeAnd r (IsRunnable (meta_of rules) c.args.graph.graph)) c.rule_at-rule.ensures c.requires.runnable in
+    let runs : IsRunnable c.args.graph.graph rule = subst (λ (r : Option Rule). IsSomeAnd r (IsRunnable c.args.graph.graph)) c.rule_at-rule.ensures c.requires.runnable in
     let made : Made rules c.args.graph.graph c.args.request.now rule tried = record {
       called = c.requires.called ∙ ap Some (sym c.in_ok-tried.ensures.rule);
       found = rw c.in_ok-tried.ensures.rule c.rule_at-rule.ensures;
