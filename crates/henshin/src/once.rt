@@ -65,7 +65,7 @@ pub fn once<S: Source, K: Sink>(
         Err(Failure::Fault(ReadFault::TooLong)) => return ended(Status::TooLong),
         Err(Failure::NoMemory) => return ended(Status::NoMemory),
     };
-    let Answer { report, text } = match serve(alloc, command, bytes.as_slice()) {
+    let Answer { report, text } = match serve(alloc, command, bytes) {
         Ok(answer) => answer,
         Err(Failure::Fault(refusal)) => return ended(Status::Refused(refusal)),
         Err(Failure::NoMemory) => return ended(Status::NoMemory),

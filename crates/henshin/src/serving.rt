@@ -32,12 +32,14 @@ pub struct Answer {
     pub text: Text,
 }
 
-/// What the command gives for the bundle that the bytes are, or why they are refused.
-pub fn serve(alloc: Global, command: Command, bytes: &[u8]) -> Result<Answer, Failure<Refusal>>
-    ensures gives { IfOk result (λ answer. IsOutput command bytes.now answer.report answer.text) }
-    ensures refused { Tells bytes.now result }
+/// What the command gives for the bundle that the bytes are, or why they are refused. The bytes are
+/// let go once they are read.
+pub fn serve(alloc: Global, command: Command, bytes: Vec<u8>) -> Result<Answer, Failure<Refusal>>
+    ensures gives { IfOk result (λ answer. IsOutput command bytes.items answer.report answer.text) }
+    ensures refused { Tells bytes.items result }
 {
-    let input = read_input(alloc, bytes)?;
+    let input = read_input(alloc, bytes.as_slice())?;
+    drop(bytes);
     Ok(match command {
         Command::Apply => applied(alloc, input)?,
         Command::Validate => validated(alloc, &input)?,
