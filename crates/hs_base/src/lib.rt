@@ -18,6 +18,3 @@ pub use outside::{Failed, Sink, Source};
 pub use sink_mem::SinkMem;
 pub use source_mem::SourceMem;
 pub use std_edge::{SinkStd, SourceStd};
-
-#[cfg(test)]
-mod tests;

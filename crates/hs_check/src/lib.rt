@@ -16,8 +16,6 @@ mod number_scope;
 mod parameters;
 mod rules;
 mod slots;
-#[cfg(test)]
-mod tests;
 mod units;
 mod visible_nodes;
 

@@ -33,6 +33,3 @@ pub use nests::nests_within;
 pub use reading::Env;
 pub use scope::Scope;
 pub use value_ref::ValueRef;
-
-#[cfg(test)]
-mod tests;

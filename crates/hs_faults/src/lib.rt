@@ -26,10 +26,6 @@ mod signature;
 mod sizes;
 mod statement_faults;
 pub mod statements;
-#[cfg(test)]
-mod tests;
-#[cfg(test)]
-mod unit_tests;
 mod units;
 mod written;
 

@@ -18,8 +18,6 @@ mod objects;
 mod problem;
 mod raw;
 mod refs;
-#[cfg(test)]
-mod tests;
 mod validation;
 mod values;
 

@@ -12,8 +12,6 @@ mod lines;
 mod reading;
 mod refusal;
 mod sessions;
-#[cfg(test)]
-mod tests;
 
 pub use laws::{calls_tried, refused_once};
 pub use reading::{Input, read_input};

@@ -8,8 +8,6 @@
 mod fault;
 mod problem_lines;
 mod reading;
-#[cfg(test)]
-mod tests;
 
 pub use fault::BundleFault;
 pub use hs_graph::problems;

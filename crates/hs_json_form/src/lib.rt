@@ -10,8 +10,6 @@ mod failure;
 mod form;
 mod path;
 mod reading;
-#[cfg(test)]
-mod tests;
 
 pub use failure::fault_with;
 pub use form::{at_key, integer_of, member_at, only_known, text_of, truth_of};

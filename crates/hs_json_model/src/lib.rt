@@ -15,10 +15,6 @@ mod lines;
 mod meta;
 mod meta_form;
 mod paths;
-#[cfg(test)]
-mod read_tests;
-#[cfg(test)]
-mod tests;
 mod values;
 mod words;
 

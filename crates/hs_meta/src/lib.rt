@@ -14,8 +14,6 @@ mod names;
 mod numbers;
 mod raw;
 mod supers;
-#[cfg(test)]
-mod tests;
 
 pub use fault::{ModelFault, ModelFaultKind, ModelPlace};
 pub use metamodel::{build, check};

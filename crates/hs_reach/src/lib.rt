@@ -9,8 +9,6 @@ mod cycles;
 mod depth_first;
 mod kosaraju;
 mod reversal;
-#[cfg(test)]
-mod tests;
 mod vertices;
 
 pub use cycles::on_cycles;

@@ -7,8 +7,6 @@
 
 mod choice;
 mod search;
-#[cfg(test)]
-mod tests;
 
 pub use choice::{Choice, MOST, Numbers};
 pub use search::{exists, least, next_after};

@@ -1,64 +1,24 @@
 //! Conformance and look-ups.
 
-use hs_types::{Class, Edge, Graph, Meta, Metamodel, Object, Slot};
 use hs_expr::{List, Text, Value};
+use hs_tests_model::model_of;
+use hs_types::{Edge, Graph, Object, Slot};
 use std::alloc::{AllocError, Global};
 
-/// A class for each list of supertypes, abstract where it says so.
-fn meta_of(alloc: Global, classes: &[(&[u16], bool)]) -> Result<Option<Meta>, AllocError> {
-    let mut made = List::new(alloc);
-    for (supers, is_abstract) in classes {
-        made.push(Class {
-            name: Text::from_str(alloc, "class")?,
-            is_abstract: *is_abstract,
-            supers: List::from_vec(Vec::from_slice(alloc, supers)?),
-            features: List::new(alloc),
-        })?;
-    }
-    let plain = Metamodel {
-        format: 1,
-        classes: made,
-        features: List::new(alloc),
-    };
-    Meta::new(alloc, plain)
-}
-
-/// Whether class `class` conforms to class `above`, where there is such a metamodel.
-fn conforms(
-    alloc: Global,
-    classes: &[(&[u16], bool)],
-    class: u16,
-    above: u16,
-) -> Result<Option<bool>, AllocError> {
-    match meta_of(alloc, classes)? {
-        Some(meta) => Ok(Some(meta.conforms(class, above))),
-        None => Ok(None),
-    }
-}
-
-fn have_common(
-    alloc: Global,
-    classes: &[(&[u16], bool)],
-    one: u16,
-    other: u16,
-) -> Result<Option<bool>, AllocError> {
-    match meta_of(alloc, classes)? {
-        Some(meta) => Ok(Some(meta.have_common(one, other))),
-        None => Ok(None),
-    }
-}
-
 /// Class 3 is below 2 and 0, 2 below 1, and 1 below 0, which is abstract, as is 4, which stands alone.
-const CLASSES: [(&[u16], bool); 5] = [
-    (&[], true),
-    (&[0], false),
-    (&[1], true),
-    (&[2, 0], false),
-    (&[], true),
-];
+const CLASSES: &str =
+    r#"{"classes":[{"name":"A","abstract":true},{"name":"B","supers":["A"]},{"name":"C","abstract":true,"supers":["B"]},{"name":"D","supers":["C","A"]},{"name":"E","abstract":true}]}"#;
+
+fn conforms(alloc: Global, class: u16, above: u16) -> Option<bool> {
+    Some(model_of(alloc, CLASSES)?.conforms(class, above))
+}
+
+fn have_common(alloc: Global, one: u16, other: u16) -> Option<bool> {
+    Some(model_of(alloc, CLASSES)?.have_common(one, other))
+}
 
 #[test]
-fn climbs_to_supertypes(rt: HostRuntime) -> Result<(), AllocError> {
+fn climbs_to_supertypes(rt: HostRuntime) {
     for (class, above, want) in [
         (3, 0, true),
         (3, 1, true),
@@ -68,13 +28,12 @@ fn climbs_to_supertypes(rt: HostRuntime) -> Result<(), AllocError> {
         (9, 9, true),
         (1, 9, false),
     ] {
-        assert!(rt; conforms(rt.alloc(), &CLASSES, class, above)? == Some(want));
+        assert!(rt; conforms(rt.alloc(), class, above) == Some(want));
     }
-    Ok(())
 }
 
 #[test]
-fn counts_concrete_classes_alone(rt: HostRuntime) -> Result<(), AllocError> {
+fn counts_concrete_classes_alone(rt: HostRuntime) {
     for (one, other, want) in [
         (0, 0, true),
         (0, 2, true),
@@ -84,16 +43,8 @@ fn counts_concrete_classes_alone(rt: HostRuntime) -> Result<(), AllocError> {
         (4, 0, false),
         (9, 9, false),
     ] {
-        assert!(rt; have_common(rt.alloc(), &CLASSES, one, other)? == Some(want));
+        assert!(rt; have_common(rt.alloc(), one, other) == Some(want));
     }
-    Ok(())
-}
-
-#[test]
-fn wants_classes_for_supertypes(rt: HostRuntime) -> Result<(), AllocError> {
-    assert!(rt; meta_of(rt.alloc(), &[(&[1], false)])?.is_none());
-    assert!(rt; conforms(rt.alloc(), &[(&[0], false)], 0, 0)? == Some(true));
-    Ok(())
 }
 
 fn sample_graph(alloc: Global) -> Result<Graph, AllocError> {

@@ -11,6 +11,10 @@ mod conformance;
 #[cfg(test)]
 mod matching;
 #[cfg(test)]
+mod searches;
+#[cfg(test)]
+mod sources;
+#[cfg(test)]
 mod steps;
 #[cfg(test)]
 mod texts;

@@ -1,30 +1,13 @@
 //! The least match.
 
-use hs_match::{first_match, is_in_order, is_small};
 use hs_expr::{List, Text};
-use hs_types::{
-    Class, Edge, Graph, Mark, Match, Meta, Metamodel, Object, PatternEdge, PatternNode, Rule, Shape,
-};
+use hs_match::{first_match, is_in_order, is_small};
+use hs_tests_model::model_of;
+use hs_types::{Edge, Graph, Mark, Match, Object, PatternEdge, PatternNode, Rule, Shape};
 use std::alloc::{AllocError, Global};
 
-/// A class for each list of supertypes.
-fn meta_of(alloc: Global, supers: &[&[u16]]) -> Result<Option<Meta>, AllocError> {
-    let mut classes = List::new(alloc);
-    for above in supers {
-        classes.push(Class {
-            name: Text::from_str(alloc, "class")?,
-            is_abstract: false,
-            supers: List::from_vec(Vec::from_slice(alloc, above)?),
-            features: List::new(alloc),
-        })?;
-    }
-    let plain = Metamodel {
-        format: 1,
-        classes,
-        features: List::new(alloc),
-    };
-    Meta::new(alloc, plain)
-}
+/// The class 1 is below the class 0, and the class 2 stands alone.
+const CLASSES: &str = r#"{"classes":[{"name":"A"},{"name":"B","supers":["A"]},{"name":"C"}]}"#;
 
 /// Objects of these classes and edges between them, numbered from 0.
 fn graph_of(alloc: Global, classes: &[u16], joins: &[(u32, u32)]) -> Result<Graph, AllocError> {
@@ -109,14 +92,14 @@ fn is(found: &Option<Match>, nodes: &[u32], edges: &[u32]) -> bool {
 }
 
 /// Whether the least match of the nodes and edges, in the graph of these objects and edges, is this
-/// one. The class 1 is below the class 0, and the class 2 stands alone.
+/// one.
 fn finds(
     alloc: Global,
     objects: (&[u16], &[(u32, u32)]),
     pattern: (&[u16], &[(u16, u16)]),
     want: (&[u32], &[u32]),
 ) -> Result<bool, AllocError> {
-    let Some(meta) = meta_of(alloc, &[&[], &[0], &[]])? else {
+    let Some(meta) = model_of(alloc, CLASSES) else {
         return Ok(false);
     };
     let graph = graph_of(alloc, objects.0, objects.1)?;

@@ -1,3 +1,5 @@
+//! Worked examples of the definitions of reports.
+
 ghost use Rattle.std.specs.Prelude.{◌≡◌, [], ◌∷◌};
 ghost use Rattle.hs_types.specs.declared.rule_set.RuleSet.{RuleSet};
 ghost use Rattle.hs_laws.specs.Bank.{add, adds, just_client, open_account, opens};

@@ -2,10 +2,8 @@
 
 use hs_apply::plan;
 use hs_expr::{List, Text, Value};
-use hs_types::{
-    Class, DataType, End, Feature, FeatureKind, MadeEdge, Mark, Match, Meta, Metamodel,
-    PatternEdge, PatternNode, Rule, Shape,
-};
+use hs_tests_model::model_of;
+use hs_types::{End, MadeEdge, Mark, Match, PatternEdge, PatternNode, Rule, Shape};
 use std::alloc::{AllocError, Global};
 use std::test::Fail;
 
@@ -17,48 +15,9 @@ fn list_of<T: Drop>(alloc: Global, first: T, second: T) -> Result<List<T>, Alloc
     Ok(list)
 }
 
-fn class(alloc: Global, name: &str, feature: u16) -> Result<Class, AllocError> {
-    let mut features = List::new(alloc);
-    features.push(feature)?;
-    Ok(Class {
-        name: Text::from_str(alloc, name)?,
-        is_abstract: false,
-        supers: List::new(alloc),
-        features,
-    })
-}
-
 /// Clients with accounts; an account has a balance, which is 5 at first.
-fn bank(alloc: Global) -> Result<Option<Meta>, AllocError> {
-    let accounts = Feature {
-        owner: 0,
-        name: Text::from_str(alloc, "accounts")?,
-        kind: FeatureKind::Reference {
-            target: 1,
-            containment: false,
-            lower: 0,
-            upper: None,
-        },
-    };
-    let balance = Feature {
-        owner: 1,
-        name: Text::from_str(alloc, "balance")?,
-        kind: FeatureKind::Attribute {
-            data_type: DataType::EInt,
-            default: Value::Int(5),
-        },
-    };
-    let plain = Metamodel {
-        format: 1,
-        classes: list_of(
-            alloc,
-            class(alloc, "Client", 0)?,
-            class(alloc, "Account", 1)?,
-        )?,
-        features: list_of(alloc, accounts, balance)?,
-    };
-    Meta::new(alloc, plain)
-}
+const MODEL: &str =
+    r#"{"classes":[{"name":"Client","references":[{"name":"accounts","target":"Account","upper":-1}]},{"name":"Account","attributes":[{"name":"balance","type":"EInt","default":5}]}]}"#;
 
 fn node(alloc: Global, name: &str, class: u16, mark: Mark) -> Result<PatternNode, AllocError> {
     Ok(PatternNode {
@@ -115,8 +74,8 @@ fn found_at(alloc: Global, object: u32) -> Result<Match, AllocError> {
 #[test]
 fn plans_what_a_rule_makes(rt: HostRuntime) -> Result<(), Fail> {
     let alloc = rt.alloc();
-    let Some(meta) = bank(alloc)? else {
-        return Err(Fail::new("the supertypes are classes"));
+    let Some(meta) = model_of(alloc, MODEL) else {
+        return Err(Fail::new("the metamodel is sound"));
     };
     let rule = opens_two(alloc)?;
     let found = found_at(alloc, 7)?;

@@ -1,5 +1,20 @@
-//! Tests of what crosses crates: expressions that are read from a text and checked.
+//! Tests of public calls of the readers of rule texts: tokens, syntax, expressions, faults, and what a
+//! text means. They are here so that the libraries are proved once.
 #![tactic(auto)]
 
 #[cfg(test)]
-mod tests;
+mod evaluation;
+#[cfg(test)]
+mod expressions;
+#[cfg(test)]
+mod meaning;
+#[cfg(test)]
+mod parsing;
+#[cfg(test)]
+mod printing;
+#[cfg(test)]
+mod rule_faults;
+#[cfg(test)]
+mod tokens;
+#[cfg(test)]
+mod unit_faults;

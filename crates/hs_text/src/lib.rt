@@ -31,8 +31,6 @@ mod printing;
 mod spelling;
 mod syntax;
 mod table;
-#[cfg(test)]
-mod tests;
 mod unit_printing;
 mod words;
 

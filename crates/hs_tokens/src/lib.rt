@@ -8,8 +8,6 @@
 mod fault;
 mod laws;
 mod scan;
-#[cfg(test)]
-mod tests;
 mod token;
 
 pub use fault::{FaultKind, TextFault};

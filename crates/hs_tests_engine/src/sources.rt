@@ -1,4 +1,6 @@
-use super::*;
+//! Sources and sinks.
+
+use hs_base::{Failed, Sink, SinkMem, SinkStd, Source, SourceMem, SourceStd};
 use hs_expr::List;
 use std::alloc::{AllocError, Global};
 use std::io::Cursor;

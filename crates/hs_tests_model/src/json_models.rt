@@ -1,5 +1,8 @@
-use crate::{read_graph, read_meta, with_graph, write_graph};
+//! Graphs that are written.
+
+use crate::model_of;
 use hs_expr::{List, Text, Value as Scalar};
+use hs_json_model::{read_graph, with_graph, write_graph};
 use hs_types::{Edge, EdgeNo, FeatureNo, Graph, Meta, Object, ObjectNo, Slot};
 use serde_json::Value;
 use std::alloc::{AllocError, Global};
@@ -7,26 +10,18 @@ use std::test::Fail;
 
 /// `Client` and `Account` below the abstract `Named`, which has `name` and `link` to anything. A client
 /// holds `accounts`; an account has `balance`, `total`, `open` and an `owner`.
-const BANK: &str =
-    "{\"classes\":[{\"name\":\"Named\",\"abstract\":true,\"attributes\":[{\"name\":\"name\",\"type\":\"EString\",\"default\":\"?\"}],\"references\":[{\"name\":\"link\",\"target\":\"Named\",\"upper\":-1}]},{\"name\":\"Client\",\"supers\":[\"Named\"],\"references\":[{\"name\":\"accounts\",\"target\":\"Account\",\"upper\":-1}]},{\"name\":\"Account\",\"supers\":[\"Named\"],\"attributes\":[{\"name\":\"balance\",\"type\":\"EInt\",\"default\":5},{\"name\":\"total\",\"type\":\"ELong\"},{\"name\":\"open\",\"type\":\"EBoolean\"}],\"references\":[{\"name\":\"owner\",\"target\":\"Client\"}]}]}";
-
-fn bank(alloc: Global) -> Option<Meta> {
-    let value = Value::from_str(alloc, BANK).ok()?;
-    read_meta(alloc, &value).ok()
-}
+const MODEL: &str =
+    r#"{"classes":[{"name":"Named","abstract":true,"attributes":[{"name":"name","type":"EString","default":"?"}],"references":[{"name":"link","target":"Named","upper":-1}]},{"name":"Client","supers":["Named"],"references":[{"name":"accounts","target":"Account","upper":-1}]},{"name":"Account","supers":["Named"],"attributes":[{"name":"balance","type":"EInt","default":5},{"name":"total","type":"ELong"},{"name":"open","type":"EBoolean"}],"references":[{"name":"owner","target":"Client"}]}]}"#;
 
 /// The graph that the value of this text has at `graph`.
 fn read(alloc: Global, meta: &Meta, text: &str) -> Option<Graph> {
-    if meta.plain().classes.len() > 256 {
-        return None;
-    }
     let value = Value::from_str(alloc, text).ok()?;
     read_graph(alloc, meta, value.get("graph")?).ok()
 }
 
 /// The text of the graph that is read of this text.
 fn rewritten(alloc: Global, text: &str) -> Option<Text> {
-    let meta = bank(alloc)?;
+    let meta = model_of(alloc, MODEL)?;
     let graph = read(alloc, &meta, text)?;
     write_graph(alloc, &meta, &graph).ok()
 }
@@ -95,7 +90,7 @@ fn worn(alloc: Global) -> Result<Graph, AllocError> {
 
 /// Written, the graph reads as expected.
 fn is_written(alloc: Global, expected: &str) -> Option<bool> {
-    let meta = bank(alloc)?;
+    let meta = model_of(alloc, MODEL)?;
     let graph = worn(alloc).ok()?;
     let text = write_graph(alloc, &meta, &graph).ok()?;
     Some(text.as_str() == expected)
@@ -103,13 +98,13 @@ fn is_written(alloc: Global, expected: &str) -> Option<bool> {
 
 /// The edges of the graph that is read of this text.
 fn edges_read(alloc: Global, text: &str) -> Option<List<Edge>> {
-    let meta = bank(alloc)?;
+    let meta = model_of(alloc, MODEL)?;
     Some(read(alloc, &meta, text)?.edges)
 }
 
 /// A text, and behind it the graph of one client.
 fn written_behind(alloc: Global) -> Option<String> {
-    let meta = bank(alloc)?;
+    let meta = model_of(alloc, MODEL)?;
     let graph = read(
         alloc,
         &meta,

@@ -1,6 +1,8 @@
+//! Expressions that are evaluated.
+
 ghost use Rattle.std.specs.Prelude.{Some, None, nat_eq, if◌then◌else◌};
 
-use crate::{Env, ValueRef, eval, nests_within};
+use hs_eval::{Env, ValueRef, eval, nests_within};
 use hs_expr::{Expr, Sign, SlotRead, Text, Value};
 use sqlite_items::Boxed;
 use std::alloc::{AllocError, Global};

@@ -1,6 +1,9 @@
-use crate::tests::bank;
-use crate::{Within, check};
+//! Faults of units.
+
+use crate::rule_faults::MODEL;
 use hs_expr::Failure;
+use hs_faults::{Within, check};
+use hs_tests_model::model_of;
 use hs_text::parse;
 use hs_types::Meta;
 use std::alloc::{AllocError, Global};
@@ -25,7 +28,7 @@ fn told(alloc: Global, meta: &Meta, text: &str) -> Result<String, AllocError> {
 }
 
 fn is_answer(alloc: Global, text: &str, wanted: &str) -> Result<bool, AllocError> {
-    match bank(alloc)? {
+    match model_of(alloc, MODEL) {
         Some(meta) => Ok(told(alloc, &meta, text)?.as_str() == wanted),
         None => Ok(false),
     }

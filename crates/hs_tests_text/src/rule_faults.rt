@@ -1,83 +1,18 @@
-use crate::check_rules;
-use hs_expr::{Failure, List, Text, Value};
+//! Faults of rules.
+
+use hs_expr::Failure;
+use hs_faults::check_rules;
+use hs_tests_model::model_of;
 use hs_text::parse;
-use hs_types::{Class, DataType, Feature, FeatureKind, Meta, Metamodel};
+use hs_types::Meta;
 use std::alloc::{AllocError, Global};
 use std::test::Fail;
-
-fn class(
-    alloc: Global,
-    name: &str,
-    is_abstract: bool,
-    supers: &[u16],
-    features: &[u16],
-) -> Result<Class, AllocError> {
-    Ok(Class {
-        name: Text::from_str(alloc, name)?,
-        is_abstract,
-        supers: List::from_vec(Vec::from_slice(alloc, supers)?),
-        features: List::from_vec(Vec::from_slice(alloc, features)?),
-    })
-}
-
-fn reference(alloc: Global, owner: u16, name: &str, target: u16) -> Result<Feature, AllocError> {
-    Ok(Feature {
-        owner,
-        name: Text::from_str(alloc, name)?,
-        kind: FeatureKind::Reference {
-            target,
-            containment: false,
-            lower: 0,
-            upper: None,
-        },
-    })
-}
-
-fn attribute(
-    alloc: Global,
-    owner: u16,
-    name: &str,
-    data_type: DataType,
-    default: Value,
-) -> Result<Feature, AllocError> {
-    Ok(Feature {
-        owner,
-        name: Text::from_str(alloc, name)?,
-        kind: FeatureKind::Attribute { data_type, default },
-    })
-}
-
-fn features(alloc: Global) -> Result<List<Feature>, AllocError> {
-    let empty = Value::Text(Text::from_str(alloc, "")?);
-    let mut features = List::new(alloc);
-    features.push(attribute(alloc, 0, "name", DataType::EString, empty)?)?;
-    features.push(reference(alloc, 1, "accounts", 2)?)?;
-    features.push(attribute(alloc, 2, "balance", DataType::EInt, Value::Int(0))?)?;
-    features.push(attribute(alloc, 2, "open", DataType::EBoolean, Value::Bool(false))?)?;
-    features.push(reference(alloc, 2, "owner", 1)?)?;
-    features.push(reference(alloc, 2, "about", 0)?)?;
-    Ok(features)
-}
 
 /// Client and Account, both below the abstract class Thing, and the abstract class Ghost, which none
 /// is below. A thing has a name, a client accounts, and an account a balance, whether it is open, an
 /// owner, and what it is about.
-pub fn bank(alloc: Global) -> Result<Option<Meta>, AllocError> {
-    let mut classes = List::new(alloc);
-    classes.push(class(alloc, "Thing", true, &[], &[0])?)?;
-    classes.push(class(alloc, "Client", false, &[0], &[0, 1])?)?;
-    classes.push(class(alloc, "Account", false, &[0], &[0, 2, 3, 4, 5])?)?;
-    classes.push(class(alloc, "Ghost", true, &[], &[])?)?;
-    let features = features(alloc)?;
-    Meta::new(
-        alloc,
-        Metamodel {
-            format: 1,
-            classes,
-            features,
-        },
-    )
-}
+pub const MODEL: &str =
+    r#"{"classes":[{"name":"Thing","abstract":true,"attributes":[{"name":"name","type":"EString"}]},{"name":"Client","supers":["Thing"],"references":[{"name":"accounts","target":"Account","upper":-1}]},{"name":"Account","supers":["Thing"],"attributes":[{"name":"balance","type":"EInt"},{"name":"open","type":"EBoolean"}],"references":[{"name":"owner","target":"Client","upper":-1},{"name":"about","target":"Thing","upper":-1}]},{"name":"Ghost","abstract":true}]}"#;
 
 /// What is told of the rules of the text: `line:column kind`, or `fine`.
 fn told(alloc: Global, meta: &Meta, text: &str) -> Result<String, AllocError> {
@@ -102,7 +37,7 @@ fn is_told(alloc: Global, front: &str, back: &str, kind: &str) -> Result<bool, A
 }
 
 fn is_answer(alloc: Global, text: &str, wanted: &str) -> Result<bool, AllocError> {
-    match bank(alloc)? {
+    match model_of(alloc, MODEL) {
         Some(meta) => Ok(told(alloc, &meta, text)?.as_str() == wanted),
         None => Ok(false),
     }

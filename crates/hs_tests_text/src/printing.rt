@@ -1,4 +1,6 @@
-use crate::{parse, print};
+//! Syntax that is printed.
+
+use hs_text::{parse, print};
 use std::alloc::{AllocError, Global};
 use std::test::Fail;
 

@@ -1,3 +1,5 @@
+//! Expressions that are read from a text and checked.
+
 ghost use Rattle.std.specs.Prelude.{Some, None, true, false, nat_eq, if◌then◌else◌};
 ghost use Rattle.std.specs.Cmp.Lexicographic.{pointwise};
 ghost use Rattle.hs_expr.specs.declared.value.Kind.TheVariants as kind;

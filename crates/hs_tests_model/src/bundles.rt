@@ -1,5 +1,7 @@
-use crate::{problems_text, read_bundle};
+//! Bundles, and the problems of their graphs.
+
 use hs_expr::Failure;
+use hs_json::{problems_text, read_bundle};
 use std::alloc::{AllocError, Global};
 
 /// Whether the bytes are a bundle, where no line is given, or have the fault of the line that is.

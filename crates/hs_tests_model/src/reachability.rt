@@ -1,5 +1,7 @@
-use crate::{components, on_cycles, targets_are_vertices};
+//! Strongly connected components, and cycles.
+
 use hs_expr::List;
+use hs_reach::{components, on_cycles, targets_are_vertices};
 use std::alloc::{AllocError, Global};
 use std::test::Fail;
 

@@ -1,8 +1,10 @@
-use crate::{
+//! Tokens.
+
+use hs_expr::{Failure, Span};
+use hs_tokens::{
     FaultKind, Kind, Position, Scanned, TextFault, Token, each_is_lexed, lexed_once, lexemes_begin,
     positions_move, tokenize,
 };
-use hs_expr::{Failure, Span};
 use std::alloc::Global;
 use std::test::Fail;
 

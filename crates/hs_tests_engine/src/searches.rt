@@ -1,7 +1,9 @@
+//! Searches over choices.
+
 ghost use Rattle.std.specs.Prelude.{◌≡◌, ◌<◌, ◌≤◌};
 ghost use Rattle.hs_search.specs.Varied.{IsNew, IsVaried};
 
-use crate::{Choice, Numbers, exists, least, next_after};
+use hs_search::{Choice, Numbers, exists, least, next_after};
 
 /// Different numbers below a bound, the last of them given.
 #[derive(Drop)]

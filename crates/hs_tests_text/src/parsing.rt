@@ -1,5 +1,7 @@
-use crate::{Definition, FaultKind, Item, Simple, TextFault, parse};
+//! Texts that are parsed.
+
 use hs_expr::{Failure, Piece, Sign};
+use hs_text::{Definition, FaultKind, Item, Simple, TextFault, parse};
 use std::alloc::{AllocError, Global};
 use std::test::Fail;
 

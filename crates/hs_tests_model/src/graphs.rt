@@ -1,89 +1,18 @@
-use crate::{GraphFault, GraphFaultKind, GraphPlace, RawAttr, RawObject, RawRef, RawValue, build};
+//! Graphs of written objects.
+
+use crate::model_of;
 use hs_expr::{Failure, List, Text, Value};
-use hs_types::{Class, ClassNo, DataType, Feature, FeatureKind, FeatureNo, Graph, Meta, Metamodel};
+use hs_graph::{
+    GraphFault, GraphFaultKind, GraphPlace, RawAttr, RawObject, RawRef, RawValue, build,
+};
+use hs_types::Graph;
 use std::alloc::{AllocError, Global};
 use std::test::Fail;
 
-fn class(
-    alloc: Global,
-    name: &str,
-    is_abstract: bool,
-    supers: &[ClassNo],
-    features: &[FeatureNo],
-) -> Result<Class, AllocError> {
-    let mut made = Class {
-        name: Text::from_str(alloc, name)?,
-        is_abstract,
-        supers: List::new(alloc),
-        features: List::new(alloc),
-    };
-    for number in supers {
-        made.supers.push(*number)?;
-    }
-    for number in features {
-        made.features.push(*number)?;
-    }
-    Ok(made)
-}
-
-fn attribute(
-    alloc: Global,
-    owner: ClassNo,
-    name: &str,
-    data_type: DataType,
-    default: Value,
-) -> Result<Feature, AllocError> {
-    Ok(Feature {
-        owner,
-        name: Text::from_str(alloc, name)?,
-        kind: FeatureKind::Attribute { data_type, default },
-    })
-}
-
-fn reference(
-    alloc: Global,
-    owner: ClassNo,
-    name: &str,
-    target: ClassNo,
-) -> Result<Feature, AllocError> {
-    Ok(Feature {
-        owner,
-        name: Text::from_str(alloc, name)?,
-        kind: FeatureKind::Reference {
-            target,
-            containment: false,
-            lower: 0,
-            upper: None,
-        },
-    })
-}
-
 /// `Client` and `Account` below the abstract `Named`. A client has `name`, `link` to anything and
 /// `accounts`; an account has `name`, `link`, `balance`, `total`, `open` and `owner`.
-fn bank(alloc: Global) -> Result<Meta, AllocError> {
-    let mut classes = List::new(alloc);
-    classes.push(class(alloc, "Named", true, &[], &[0, 1])?)?;
-    classes.push(class(alloc, "Client", false, &[0], &[0, 1, 2])?)?;
-    classes.push(class(alloc, "Account", false, &[0], &[0, 1, 3, 4, 5, 6])?)?;
-    let mut features = List::new(alloc);
-    let text = Value::Text(Text::from_str(alloc, "?")?);
-    features.push(attribute(alloc, 0, "name", DataType::EString, text)?)?;
-    features.push(reference(alloc, 0, "link", 0)?)?;
-    features.push(reference(alloc, 1, "accounts", 2)?)?;
-    features.push(attribute(alloc, 2, "balance", DataType::EInt, Value::Int(5))?)?;
-    features.push(attribute(alloc, 2, "total", DataType::ELong, Value::Int(0))?)?;
-    features.push(attribute(alloc, 2, "open", DataType::EBoolean, Value::Bool(false))?)?;
-    features.push(reference(alloc, 2, "owner", 1)?)?;
-    let plain = Metamodel {
-        format: 1,
-        classes,
-        features,
-    };
-    match Meta::new(alloc, plain)? {
-        Some(meta) => Ok(meta),
-        None => Err(AllocError),
-    }
-}
+const MODEL: &str =
+    r#"{"classes":[{"name":"Named","abstract":true,"attributes":[{"name":"name","type":"EString","default":"?"}],"references":[{"name":"link","target":"Named","upper":-1}]},{"name":"Client","supers":["Named"],"references":[{"name":"accounts","target":"Account","upper":-1}]},{"name":"Account","supers":["Named"],"attributes":[{"name":"balance","type":"EInt","default":5},{"name":"total","type":"ELong"},{"name":"open","type":"EBoolean"}],"references":[{"name":"owner","target":"Client","upper":-1}]}]}"#;
 
 /// The value that is written so: `~` is none.
 fn value(alloc: Global, word: &str) -> Result<RawValue, AllocError> {
@@ -148,10 +77,9 @@ fn objects(alloc: Global, text: &str) -> Result<List<RawObject>, AllocError> {
 }
 
 fn answer(alloc: Global, objects: &List<RawObject>) -> Result<Graph, Failure<GraphFault>> {
-    let meta = bank(alloc)?;
-    if meta.plain().classes.len() > 256 {
+    let Some(meta) = model_of(alloc, MODEL) else {
         return Err(Failure::NoMemory);
-    }
+    };
     build(alloc, &meta, objects.as_slice())
 }
 

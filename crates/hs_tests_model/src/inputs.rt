@@ -1,5 +1,7 @@
-use crate::read_input;
+//! What a bundle asks for.
+
 use hs_expr::{Failure, List};
+use hs_input::read_input;
 use hs_types::Request;
 use std::alloc::{AllocError, Global};
 

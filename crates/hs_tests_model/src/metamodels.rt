@@ -1,8 +1,10 @@
-use crate::{
+//! Metamodels of written classes.
+
+use hs_expr::{Failure, List, Text, Value};
+use hs_meta::{
     ModelFault, ModelFaultKind, ModelPlace, RawAttribute, RawClass, RawDefault, RawMeta,
     RawReference, build, check,
 };
-use hs_expr::{Failure, List, Text, Value};
 use hs_types::{Class, FeatureKind, Meta};
 use std::alloc::{AllocError, Global};
 use std::test::Fail;

@@ -1,8 +1,10 @@
-use crate::{
+//! Forms of JSON values.
+
+use hs_expr::{Failure, List, Text};
+use hs_json_form::{
     Path, Step, at_key, integer_at, integer_of, list_at, list_of, member_at, members_at,
     members_of, only_known, text_at, text_of, truth_at, truth_of,
 };
-use hs_expr::{Failure, List, Text};
 use serde_json::Value;
 use std::alloc::{AllocError, Global};
 

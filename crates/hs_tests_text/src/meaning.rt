@@ -1,85 +1,22 @@
-use crate::check;
+//! What rules and units mean.
+
+use hs_check::check;
 use hs_expr::{Expr, List, Text, Value};
+use hs_tests_model::model_of;
 use hs_text::{parse, print};
 use hs_types::{
-    Atom, Bind, Body, Call, Class, Count, DataType, Feature, FeatureKind, Meta, Metamodel, Multi,
-    Param, Part, PatternEdge, PatternNode, Rule, RuleSet, SetItem, Shape, Unit,
+    Atom, Bind, Body, Call, Count, Multi, Param, Part, PatternEdge, PatternNode, Rule, RuleSet,
+    SetItem, Shape, Unit,
 };
 use std::alloc::{AllocError, Global};
 use std::sync::Arc;
 use std::test::Fail;
 
-fn class(
-    alloc: Global,
-    name: &str,
-    is_abstract: bool,
-    supers: &[u16],
-    features: &[u16],
-) -> Result<Class, AllocError> {
-    Ok(Class {
-        name: Text::from_str(alloc, name)?,
-        is_abstract,
-        supers: List::from_vec(Vec::from_slice(alloc, supers)?),
-        features: List::from_vec(Vec::from_slice(alloc, features)?),
-    })
-}
-
-fn reference(alloc: Global, owner: u16, name: &str, target: u16) -> Result<Feature, AllocError> {
-    Ok(Feature {
-        owner,
-        name: Text::from_str(alloc, name)?,
-        kind: FeatureKind::Reference {
-            target,
-            containment: false,
-            lower: 0,
-            upper: None,
-        },
-    })
-}
-
-fn attribute(
-    alloc: Global,
-    owner: u16,
-    name: &str,
-    data_type: DataType,
-    default: Value,
-) -> Result<Feature, AllocError> {
-    Ok(Feature {
-        owner,
-        name: Text::from_str(alloc, name)?,
-        kind: FeatureKind::Attribute { data_type, default },
-    })
-}
-
-fn features(alloc: Global) -> Result<List<Feature>, AllocError> {
-    let empty = Value::Text(Text::from_str(alloc, "")?);
-    let mut features = List::new(alloc);
-    features.push(attribute(alloc, 0, "name", DataType::EString, empty)?)?;
-    features.push(reference(alloc, 1, "accounts", 2)?)?;
-    features.push(reference(alloc, 1, "knows", 1)?)?;
-    features.push(attribute(alloc, 2, "balance", DataType::EInt, Value::Int(0))?)?;
-    features.push(reference(alloc, 2, "owner", 1)?)?;
-    Ok(features)
-}
-
 /// Client and Account, numbers 1 and 2, both below the abstract class Thing. A thing has a name
 /// (feature 0), a client accounts and clients that it knows (1 and 2), and an account a balance and
 /// an owner (3 and 4).
-fn bank(alloc: Global) -> Result<Option<Meta>, AllocError> {
-    let mut classes = List::new(alloc);
-    classes.push(class(alloc, "Thing", true, &[], &[0])?)?;
-    classes.push(class(alloc, "Client", false, &[0], &[0, 1, 2])?)?;
-    classes.push(class(alloc, "Account", false, &[0], &[0, 3, 4])?)?;
-    let features = features(alloc)?;
-    Meta::new(
-        alloc,
-        Metamodel {
-            format: 1,
-            classes,
-            features,
-        },
-    )
-}
+const MODEL: &str =
+    r#"{"classes":[{"name":"Thing","abstract":true,"attributes":[{"name":"name","type":"EString"}]},{"name":"Client","supers":["Thing"],"references":[{"name":"accounts","target":"Account","upper":-1},{"name":"knows","target":"Client","upper":-1}]},{"name":"Account","supers":["Thing"],"attributes":[{"name":"balance","type":"EInt"}],"references":[{"name":"owner","target":"Client","upper":-1}]}]}"#;
 
 fn nodes_text(alloc: Global, nodes: &[PatternNode]) -> Result<String, AllocError> {
     let mut text = String::new(alloc);
@@ -299,7 +236,7 @@ fn unit_text(alloc: Global, unit: &Unit) -> Result<String, AllocError> {
 }
 
 fn read(alloc: Global, text: &str) -> Result<Option<RuleSet>, AllocError> {
-    let Some(meta) = bank(alloc)? else {
+    let Some(meta) = model_of(alloc, MODEL) else {
         return Ok(None);
     };
     let Ok(syntax) = parse(alloc, text) else {
