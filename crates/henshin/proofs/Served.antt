@@ -151,10 +151,6 @@ pub refused_left : (left : Option (List ℕ)) (Rest : List ℕ → Type 0) (read
 refused_left None Rest read refusal whole why = tt
 refused_left (Some bytes) Rest read refusal whole why = subst (λ (bs : List ℕ). Refuses bs refusal) whole.0 why
 
-pub all_left : (left : Option (List ℕ)) (Rest : List ℕ → Type 0) (read : List ℕ) → IfSome left (λ bytes. (read ≡ bytes) × Rest bytes) → IfSome left (λ told. told ≡ read)
-all_left None Rest read whole = tt
-all_left (Some bytes) Rest read whole = sym whole.0
-
 -- ---- what is given for an input
 
 pub given_problems : (bytes : List ℕ) (held : Contents) (input : Input) (text : List ℕ) → IsInput bytes held input → text ≡ problems_text (arc_value input.graph.meta) input.graph.graph → IsOutput Validate bytes None text

@@ -9,10 +9,6 @@ use Rattle.hs_expr.proofs.Verdicts.{verdict-append-ok, verdict-append-err}
 ok-not_err : {A F : Type 0} (x : A) (fault : F) → Ok x ≡ Err fault → ⊥
 ok-not_err x fault same = absurd (cc)
 
--- No fault and the verdict that says so.
-pub verdict_of_none : {F : Type 0} (faults : List F) → faults ≡ [] → verdict faults ≡ Ok tt
-verdict_of_none faults e = ap verdict e
-
 pub none-from_verdict : {F : Type 0} (faults : List F) → verdict faults ≡ Ok tt → faults ≡ []
 none-from_verdict [] e = refl
 none-from_verdict (f ∷ faults) e = absurd (ok-not_err tt f (sym e))

@@ -211,9 +211,6 @@ AllZip-append R [] ys (m ∷ ms) ns a b = absurd a
 AllZip-append R (x ∷ xs) ys [] ns a b = absurd a
 AllZip-append R (x ∷ xs) ys (m ∷ ms) ns a b = (a.0, AllZip-append R xs ys ms ns a.1 b)
 
-pub AllZip-has : {A : Type 0} (R : A → ℕ → Type 0) (P : ℕ → Type 0) (xs : List A) (ns : List ℕ) (n : ℕ) → ((x : A) (n : ℕ) → R x n → P n) → AllZip R xs ns → has ns n ≡ true → P n
-AllZip-has R P xs ns n f z h = All-has P ns n (AllZip-right R P f xs ns z) h
-
 -- What stands beside those that pass is among what stands there.
 pub beside-has : {A : Type 0} (q : A → Bool) (xs : List A) (ns : List ℕ) (n : ℕ) → has (beside q xs ns) n ≡ true → has ns n ≡ true
 beside-has q [] ns n h = absurd (both_ways false refl h)
@@ -303,10 +300,6 @@ EachPair-weaker R S f (x ∷ xs) p = (All-weaker (R x) (S x) (f x) xs p.0, EachP
 pub EachPair-known : {A : Type 0} (P : A → Type 0) (R S : A → A → Type 0) → ((x y : A) → P x → P y → R x y → S x y) → (xs : List A) → All P xs → EachPair R xs → EachPair S xs
 EachPair-known P R S f [] a p = tt
 EachPair-known P R S f (x ∷ xs) a p = (All-weaker (λ y. P y × R x y) (S x) (λ y i. f x y (All-head P x xs a) i.0 i.1) xs (All-both P (R x) xs (All-tail P x xs a) p.0), EachPair-known P R S f xs (All-tail P x xs a) p.1)
-
--- Numbers of lists that are apart differ.
-pub Apart-differ : (ms ns : List ℕ) → Apart ms ns → All (λ m. All (λ n. m ≡ n → ⊥) ns) ms
-Apart-differ ms ns a = All-weaker (λ m. has ns m ≡ false) (λ m. All (λ n. m ≡ n → ⊥) ns) (λ m h. Differ-not m ns h) ms a
 
 -- A number that stands in a list that differs from a second.
 pub Differ-across : (ms ns : List ℕ) (n : ℕ) → Differ (ms ++ ns) → has ms n ≡ true → has ns n ≡ false

@@ -57,10 +57,6 @@ pub not_there : (new there : Bool) → new ≡ not there → new ≡ true → th
 not_there new true e f = sym f ∙ e
 not_there new false e f = refl
 
-found_front : {T : Type 0} (found : Option T) (more : Option T) → is_some found ≡ true → option_or found more ≡ found
-found_front None more e = absurd (false≢true e)
-found_front (Some x) more e = refl
-
 found_there : {T : Type 0} (here there : Bool) (front back : Option T) → (here ≡ true → is_some front ≡ true) → there ≡ here → back ≡ cond there back None → option_or front back ≡ front
 found_there true there (Some x) back h e none = refl
 found_there true there None back h e none = absurd (false≢true (h refl))

@@ -38,22 +38,6 @@ pub with_front-cons : {X : Type 0} (front : List X) (x : X) (r : Read (List X)) 
 with_front-cons front x (Ok xs) = ap Ok (sym (append_assoc front (x ∷ []) xs))
 with_front-cons front x (Err path) = refl
 
-pub each-next : {X : Type 0} (read : Data → Read X) (i : ℕ) (front : List X) (d : Data) (ds : List Data) (x : X) → at_step (Place i) (read d) ≡ Ok x →
-    with_front front (each_item read i (d ∷ ds)) ≡ with_front (front ++ x ∷ []) (each_item read (i + 1) ds)
-each-next read i front d ds x e = rw e (with_front-cons front x (each_item read (i + 1) ds))
-
--- A fault of an item is the whole list's.
-pub each-here : {X : Type 0} (read : Data → Read X) (i : ℕ) (front : List X) (d : Data) (ds : List Data) (failure : Failure (List Step)) →
-    Fails failure (at_step (Place i) (read d)) → Fails failure (with_front front (each_item read i (d ∷ ds)))
-each-here read i front d ds (Fault path) h = rw h refl
-each-here read i front d ds NoMemory h = tt
-
 pub member-next : {X : Type 0} (read : List ℕ → Data → Read X) (front : List X) (k : List ℕ) (d : Data) (es : List (List ℕ × Data)) (x : X) → at_step (Key k) (read k d) ≡ Ok x →
     with_front front (each_member read ((k, d) ∷ es)) ≡ with_front (front ++ x ∷ []) (each_member read es)
 member-next read front k d es x e = rw e (with_front-cons front x (each_member read es))
-
--- A fault of a member is the whole object's.
-pub member-here : {X : Type 0} (read : List ℕ → Data → Read X) (front : List X) (k : List ℕ) (d : Data) (es : List (List ℕ × Data)) (failure : Failure (List Step)) →
-    Fails failure (at_step (Key k) (read k d)) → Fails failure (with_front front (each_member read ((k, d) ∷ es)))
-member-here read front k d es (Fault path) h = rw h refl
-member-here read front k d es NoMemory h = tt

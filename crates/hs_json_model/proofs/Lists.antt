@@ -8,12 +8,6 @@ use Rattle.hs_types.specs.declared.graph.Object.{Object}
 pub none_left : {A B : Type 0} (f : A → B) (made whole : List B) (xs : List A) (i : ℕ) → length xs ≤ i → made ++ map f (drop i xs) ≡ whole → made ≡ whole
 none_left f made whole xs i past all = grind (arith, common_steps)
 
--- One item more is made, and one fewer is left.
-pub one_more_made : {V A B : Type 0} (view : V → B) (f : A → B) (vs ws : List V) (v : V) (whole : List B) (xs : List A) (i : ℕ) (d : A) → i < length xs →
-    ws ≡ vs ++ v ∷ [] → view v ≡ f (get_or xs i d) → map view vs ++ map f (drop i xs) ≡ whole → map view ws ++ map f (drop (i + 1) xs) ≡ whole
-one_more_made view f vs ws v whole xs i d h pushed same all =
-    rw (pushed, map-append view vs (v ∷ []), append_assoc, same) (rw (drop_more xs i d h) at all)
-
 -- The name of an object that was looked up by reference.
 pub named : (found : Option (Bor Object)) (object : Option Object) → option_map (λ o. o.now) found ≡ object →
     unwrap_or (option_map (λ o. o.name) object) [] ≡ unwrap_or (option_map (λ o. o.now.name) found) []

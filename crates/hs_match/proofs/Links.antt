@@ -61,10 +61,6 @@ keeps_next Free g link i from edge None answer at next k = rw k.kept none_left
       | inr here ↦ k.none y here ge (λ b same. cc) p.0
     ]
 
--- before any edge there is nothing
-pub none_yet : (Free : ℕ → Type 0) (g : Graph) (link : Link) (from : ℕ) → NoneFrom (λ y. Free y × IsLinkedBefore g link 0 y) from
-none_yet Free g link from = λ y ge p. let before = p.1.before in omega (arith, before)
-
 pub IsNextFrom-iff : (P Q : ℕ → Type 0) (from : ℕ) (o : Option ℕ) → ((y : ℕ) → P y → Q y) → ((y : ℕ) → Q y → P y) → IsNextFrom P from o → IsNextFrom Q from o
 IsNextFrom-iff P Q from (Some x) to back n = record { fits = to x n.fits; late = n.late; least = λ y ge lt q. n.least y ge lt (back y q) }
 IsNextFrom-iff P Q from None to back n = λ y ge q. n y ge (back y q)

@@ -15,17 +15,11 @@ has-push (k ∷ ns) m n h = elim (has_cases n k (ns ++ m ∷ []) h) [
   | inr later ↦ elim (has-push ns m n later) [ inl h ↦ inl (grind (arith, common_steps, h)) | inr e ↦ inr e ]
 ]
 
-pub has-take : (ns : List ℕ) (i d n : ℕ) → i < length ns → has (take (i + 1) ns) n ≡ true → (has (take i ns) n ≡ true) ⊎ (n ≡ get_or ns i d)
-has-take ns i d n lt h = has-push (take i ns) (get_or ns i d) n (rw (take_more ns i d lt) at h)
-
 -- a place of a table that is read as true
 pub read_true : (xs : List Bool) (i : ℕ) → get_or xs i false ≡ true → slice_get xs i ≡ Some true
 read_true [] i h = cc
 read_true (x ∷ xs) zero h = ap Some h
 read_true (x ∷ xs) (suc i) h = read_true xs i h
-
-pub true_read : (xs : List Bool) (i : ℕ) → slice_get xs i ≡ Some true → get_or xs i false ≡ true
-true_read xs i h = get_or_from_slice_get xs i true false h
 
 -- what is true after one place is set
 pub set_true : (xs : List Bool) (i d : ℕ) → slice_get (set xs i true) d ≡ Some true → (slice_get xs d ≡ Some true) ⊎ (d ≡ i)
@@ -52,9 +46,4 @@ none_true zero d h = cc
 none_true (suc n) zero h = cc
 none_true (suc n) (suc d) h = none_true n d h
 
--- one place of an empty table is set
-pub one_true : (n i : ℕ) (xs : List Bool) → xs ≡ replicate n false → i < n → (d : ℕ) → (slice_get (set xs i true) d ≡ Some true) ↔ (d ≡ i)
-one_true n i xs e lt d = (
-  (λ h. elim (set_true xs i d h) [ inl before ↦ absurd (none_true n d (rw e at before)) | inr here ↦ here ]),
-  (λ same. let long : i < length xs = rw e (omega (arith, length-replicate n false)) in rw same (set_here xs i long)),
 )

@@ -32,10 +32,6 @@ module _ (supers own : List (List ℕ)) (ranks : List ℕ) (ranked : AreRanked s
       ap (λ ns. each_once ns ++ get_or own c []) (flat_map_agree (features_within supers own (suc n)) (features_within supers own n) (get_or supers c [])
       (λ s e. steady n s (let r = ranked c s e in omega arith)))
 
--- Each turn is a pass over the classes of one rank.
-pub found_at_start : (supers own : List (List ℕ)) (ranks : List ℕ) → AreFoundBefore supers own ranks 0 0 own
-found_at_start supers own ranks = record {
-  each_class = λ k h. let e : comes_before ranks 0 0 k ≡ false = grind (arith, nat_tests) in sym (ap (λ b. if b then features_within supers own (length supers) k else get_or own k []) e);
 }
 
 same_before : (ranks : List ℕ) (rank c k : ℕ) → (k ≡ c → get_or ranks c 0 ≡ rank → ⊥) → comes_before ranks rank c k ≡ comes_before ranks rank (c + 1) k

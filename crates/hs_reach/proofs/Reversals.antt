@@ -24,31 +24,3 @@ pub source-within : (graph : List (List ℕ)) (n k : ℕ) → has_edge graph n k
 source-within [] n k h = absurd (false≢true h)
 source-within (row ∷ graph) zero k h = omega arith
 source-within (row ∷ graph) (suc n) k h = let rest = source-within graph n k h in omega (arith, rest)
-
-pub reversed-targets : (graph reversed : List (List ℕ)) → AreReversed graph reversed → length reversed ≡ length graph → TargetsAreVertices reversed
-reversed-targets graph reversed are long n k h = let within = source-within graph k n (sym (are k n) ∙ h) in omega (arith, within, long)
-
--- One edge more.
-pub edge-added : (graph : List (List ℕ)) (vertex to n k : ℕ) → vertex < length graph → has_edge (set graph vertex (get_or graph vertex [] ++ to ∷ [])) n k ≡ (has_edge graph n k || (eqb k to && eqb n vertex))
-edge-added graph vertex to n k within = go (eqb n vertex) refl
-  where
-    ends : (a b : Bool) → (a || (b || false)) ≡ (a || (b && true))
-    ends true b = refl
-    ends false true = refl
-    ends false false = refl
-
-    neither : (a b : Bool) → a ≡ (a || (b && false))
-    neither true b = refl
-    neither false true = refl
-    neither false false = refl
-
-    go : (b : Bool) → eqb n vertex ≡ b → has_edge (set graph vertex (get_or graph vertex [] ++ to ∷ [])) n k ≡ (has_edge graph n k || (eqb k to && b))
-    go true e =
-        let same = eqb-true n vertex e in
-        ap (λ j. has_edge (set graph vertex (get_or graph vertex [] ++ to ∷ [])) j k) same
-        ∙ ap (λ ns. has ns k) (get_or-set_same graph vertex (get_or graph vertex [] ++ to ∷ []) [] within)
-        ∙ list_any-append (eqb k) (get_or graph vertex []) (to ∷ [])
-        ∙ ends (has_edge graph vertex k) (eqb k to)
-        ∙ ap (λ j. has_edge graph j k || (eqb k to && true)) (sym same)
-    go false e =
-        ap (λ ns. has ns k) (get_or-set_other graph vertex n (get_or graph vertex [] ++ to ∷ []) [] (apart n vertex e)) ∙ neither (has_edge graph n k) (eqb k to)

@@ -154,9 +154,6 @@ begins graph m long = record {
   orderly = λ n k h e. absurd (false≢true (sym (ap is_some (default-same {A = Option ℕ} m n None)) ∙ h));
 }
 
-pub first-none : (graph : List (List ℕ)) (m : ℕ) → AreFirst graph [] (replicate m None)
-first-none graph m n = default-same {A = Option ℕ} m n None
-
 pub comes-begins : (graph : List (List ℕ)) (before : List ℕ) (start : ℕ) (starts : List (Option ℕ)) → AreFirst graph before starts → StartedFrom graph before start starts []
 comes-begins graph before start starts first = record {
   own = λ n s e. find-append (λ q. has_path graph q n) before (start ∷ []) ∙ ap (λ o. option_or o (cond (has_path graph start n) (Some start) None)) (sym (first n) ∙ e);

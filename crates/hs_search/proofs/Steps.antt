@@ -67,22 +67,6 @@ best-first size Good bound behind front x all passed same b short =
               b.best.least ys (record { choice = rw append_assoc (rw e at g.choice); above = (same ys).0 (rw e at g.above) }) p.1
         ]
 
-pub best-here : (size : ℕ) (Good : List ℕ → Type 0) (bound : Option (List ℕ)) (front : List ℕ) → length front ≡ size → bound ≡ None → Good front → GoesOnBest size Good bound front front
-best-here size Good bound front whole free good =
-    record {
-      rest = [];
-      joined = sym (append-nil front);
-      best = record { wanted = record { choice = rw append-nil (record { whole = whole; good = good }); above = rw free tt }; least = λ others g below. below };
-    }
-
-pub none-here : (size : ℕ) (Good : List ℕ → Type 0) (bound : Option (List ℕ)) (front : List ℕ) → length front ≡ size → (Good front → ⊥) → IsNone (GoesOn size Good bound front)
-none-here size Good bound front whole bad [] g = bad (rw append-nil at g.choice.good)
-none-here size Good bound front whole bad (y ∷ rest) g = let e : length (front ++ y ∷ rest) ≡ size = g.choice.whole in omega (arith, e, length-append front (y ∷ rest))
-
-pub none-bounded : (size : ℕ) (Good : List ℕ → Type 0) (bound : List ℕ) (front : List ℕ) → length front ≡ size → IsNone (GoesOn size Good (Some bound) front)
-none-bounded size Good bound front whole [] g = g.above
-none-bounded size Good bound front whole (y ∷ rest) g = let e : length (front ++ y ∷ rest) ≡ size = g.choice.whole in omega (arith, e, length-append front (y ∷ rest))
-
 -- what was pushed is popped
 pub popped : (front pushed now rest : List ℕ) (x : ℕ) → now ≡ pushed → pushed ≡ front ++ x ∷ [] → rest ≡ take (length now - 1) now → rest ≡ front
 popped front pushed now rest x same push taken =

@@ -138,12 +138,6 @@ call-same source b n bs h = rw h refl
 pub listed-same : (source : List ℕ) (b : Builder) (k : Token) (cs : List Call) → b.calls ≡ [] → builder_after source action.Listed (record (with_token k b) { calls = reverse cs ++ b.calls }) ≡ with_unit source b (list_body k.kind cs)
 listed-same source b k cs h = rw (h, rev-all cs) refl
 
-pub loop-same : (source : List ℕ) (b : Builder) (c : Call) → builder_after source action.Loop (record b { calls = c ∷ b.calls }) ≡ with_unit source b (body.Loop c)
-loop-same source b c = refl
-
-pub iterated-same : (source : List ℕ) (b : Builder) (n : Token) (c : Call) → builder_after source action.Iterated (record (with_token n b) { calls = c ∷ b.calls }) ≡ with_unit source b (body.Iterated (count_of source n) c)
-iterated-same source b n c = refl
-
 pub else-same : (source : List ℕ) (b : Builder) (a c : Call) (e : Option Call) → else_built source (record b { calls = c ∷ a ∷ b.calls }) e ≡ with_unit source b (body.Conditional a c e)
 else-same source b a c None = refl
 else-same source b a c (Some d) = refl

@@ -88,6 +88,3 @@ trees_after-postfix (Binary sign span a b) trees ps h =
     ap (trees_after trees) (append_assoc (postfix a) (postfix b ++ piece.Binary sign span ∷ []) ps ∙ ap (λ x. postfix a ++ x) (append_assoc (postfix b) (piece.Binary sign span ∷ []) ps))
     ∙ trees_after-postfix a trees (postfix b ++ (piece.Binary sign span ∷ ps)) h.0
     ∙ trees_after-postfix b (a ∷ trees) (piece.Binary sign span ∷ ps) h.1
-
-pub tree-of-postfix : (a : Tree) → IsProper a → tree_of (postfix a) ≡ Some a
-tree-of-postfix a h = ap (option_and_then only_tree) (ap (trees_after []) (sym (append-nil (postfix a))) ∙ trees_after-postfix a [] [] h)

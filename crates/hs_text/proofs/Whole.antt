@@ -100,31 +100,3 @@ module _ (source : List ℕ) (ts listed : List Token) (end : Position) (i : ℕ)
   pub whole-text : (r : Bool) (c : Builder) (ds : List Definition) → length listed ≤ i → r ≡ true → OnTrue r (IsEnd source stack b c) → ds ≡ c.definitions → IsText source ts ds
   whole-text false c ds h t ended is = cc
   whole-text true c ds h t ended is = subst (λ x. IsText source ts x) (sym is) (subst (λ x. IsText source x c.definitions) (all-taken h) (stands-text source (take i listed) stack b stands c ended))
-
--- a wrong token is the text's fault
-no-order : (line column : ℕ) (e : Ending) → EndsSo fault.Order line column e → ⊥
-no-order line column Whole h = h
-no-order line column (TooLarge p) h = h
-no-order line column (Strange p) h = h
-
-no-end : (line column : ℕ) (e : Ending) → EndsSo fault.End line column e → ⊥
-no-end line column Whole h = h
-no-end line column (TooLarge p) h = h
-no-end line column (Strange p) h = h
-
-pub token-fault : (source : List ℕ) (e : TextFault) → IsTokenFault source e → IsTextFault source e
-token-fault source e h = step e.kind h.3 where
-  step : (k : FaultKind) → EndsSo k e.line e.column h.1 → IsTextFaultBy k source e
-  step fault.Character w = h
-  step fault.Number w = h
-  step fault.Order w = absurd (no-order e.line e.column h.1 w)
-  step fault.End w = absurd (no-end e.line e.column h.1 w)
-
--- so is a fault of the grammar, where all are tokens
-pub grammar-fault : (source : List ℕ) (ts : List Token) (end : Position) (e : TextFault) → AreTokens source ts → end ≡ after text_start source → IsGrammarFault source ts end e → IsTextFault source e
-grammar-fault source ts end e t w h = step e.kind h refl where
-  step : (k : FaultKind) → IsGrammarFaultBy k source ts end e → e.kind ≡ k → IsTextFaultBy k source e
-  step fault.Order h is = (ts, t, subst (λ k. IsGrammarFaultBy k source ts (after text_start source) e) (sym is) h)
-  step fault.End h is = (ts, t, subst (λ k. IsGrammarFaultBy k source ts (after text_start source) e) (sym is) (subst (λ x. IsGrammarFaultBy fault.End source ts x e) w h))
-  step fault.Character h is = absurd h
-  step fault.Number h is = absurd h

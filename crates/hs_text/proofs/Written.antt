@@ -50,9 +50,6 @@ number-is = decimal_by_steps IsNumber one more where
 
 -- TEXTS
 
-abbrev is_special : ℕ → Bool
-is_special c = c == 34 || c == 92 || c == 10 || c == 9
-
 abbrev Escapes : ℕ → Type 0
 Escapes c = ((rest : List ℕ) → closes false (escape c ++ rest) ≡ closes false rest) × ((rest : List ℕ) → content false (escape c ++ rest) ≡ c ∷ content false rest) × (encode_utf8_all (escape c) ≡ flat_map escape (encode_utf8 c))
 

@@ -51,9 +51,6 @@ digit-only c h = (grind (arith, nat_tests), (grind (arith, nat_tests)), grind (a
 pub quote-only : (c : ℕ) → (c == 34) ≡ true → (is_letter c ≡ false) × (is_digit c ≡ false) × (is_plain c ≡ false)
 quote-only c h = (grind (arith, nat_tests), (grind (arith, nat_tests)), grind (arith, nat_tests))
 
-pub plain-only : (c : ℕ) → is_letter c ≡ false → is_digit c ≡ false → (c == 34) ≡ false → is_blank c ≡ false → (c == 47) ≡ false → is_plain c ≡ true
-plain-only c a b d e f = rw (a, b, d, e, f) refl
-
 pub not-plain : (c : ℕ) (cs : List ℕ) → is_plain c ≡ false → is_sign (c ∷ cs) ≡ false
 not-plain c cs h = step (is_sign (c ∷ cs)) refl where
   step : (t : Bool) → is_sign (c ∷ cs) ≡ t → t ≡ false

@@ -65,6 +65,3 @@ pub read-whole : (chars : List ℕ) (p : Position) (tokens : List Token) → Rea
 read-whole chars p tokens so_far h =
     let e : drop p.index chars ≡ [] = no-more (drop p.index chars) (omega (arith, length-drop p.index chars)) in
     rw append-nil at (so_far.onward [] Whole (rw e nothing))
-
-pub read-none : (chars : List ℕ) (p : Position) (tokens : List Token) (e : Ending) → ReadSoFar chars p tokens → Lexes p (drop p.index chars) [] e → Lexes text_start chars tokens e
-read-none chars p tokens e so_far l = rw append-nil at (so_far.onward [] e l)

@@ -15,9 +15,6 @@ pub empty : {A : Type 0} (xs : List A) → is_empty xs ≡ true → xs ≡ []
 empty [] e = refl
 empty (x ∷ xs) e = absurd (false≢true e)
 
-is_empty-nil : {A : Type 0} (xs : List A) → xs ≡ [] → is_empty xs ≡ true
-is_empty-nil xs e = rw e refl
-
 -- No item passes the test.
 none_pass : {A : Type 0} (q : A → Bool) (xs : List A) → list_all (λ x. not (q x)) xs ≡ true → All (λ x. q x ≡ false) xs
 none_pass q [] e = All-nil (λ x. q x ≡ false)
@@ -69,6 +66,3 @@ only_adds-is rule kept plain both k p e = same_test both (only_adds rule)
     only_adds-test rule (record { keeps_nodes = h.0; keeps_edges = h.1; is_unconditional = p.0 parts.1 }))
     (λ is. let h = only_adds-fact rule is in
     e ∙ and_from kept plain (k.1 (h.keeps_nodes, h.keeps_edges)) (p.1 h.is_unconditional))
-
-pub only_adds-says : (rule : Rule) → (only_adds rule ≡ true) ↔ OnlyAdds rule
-only_adds-says rule = (only_adds-fact rule, only_adds-test rule)
