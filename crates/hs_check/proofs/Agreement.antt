@@ -14,7 +14,7 @@ use Rattle.hs_expr.specs.declared.Value.TheVariants as value
 use Rattle.hs_expr.specs.Evaluation.{binary_kind, not_kind, minus_kind, nesting, nesting_of_level}
 use Rattle.hs_expr.specs.Steps.{◌>>=◌, demand, needed}
 use Rattle.hs_expr.specs.Trees.{Tree, Leaf, Not, Minus, Binary}
-use Rattle.hs_eval.specs.Checking.{Names, Outcome, attribute_read, checked, junction, leaf, negation, opposition, slot_read, wrong_at}
+use Rattle.hs_eval.specs.Checking.{Names, Outcome, attribute_read, check_tree, junction, leaf, negation, opposition, slot_read, wrong_at}
 use Rattle.hs_eval.specs.declared.fault.Wrong.TheVariants.{UnknownName, UnknownNode, NotRead, UnknownAttribute, BadKind}
 use Rattle.hs_check.proofs.ExprKinds.{Read, inside, ok, read}
 use Rattle.hs_expr.proofs.Evaluations.{nesting-Binary, nesting-Literal, nesting-Minus, nesting-Not, nesting-Param, nesting-Slot}
@@ -37,7 +37,7 @@ pub record Finds (seen named : Names) : Type 0 where
 -- The expression that is checked over the names, of the kind and the depth of this one.
 pub record Agrees (named : Names) (tree : Tree) (s : Expr × Kind) : Type 0 where
   pub r : Expr × Kind
-  pub is : checked named tree ≡ Ok r
+  pub is : check_tree named tree ≡ Ok r
   pub same : r.1 ≡ s.1
   pub flat : nesting r.0 ≡ nesting s.0
 
@@ -73,10 +73,10 @@ leaf_agrees seen named h (piece.Not span) s d = cc
 leaf_agrees seen named h (piece.Minus span) s d = cc
 leaf_agrees seen named h (piece.Binary sign span) s d = cc
 
-pub agrees : (seen named : Names) → Finds seen named → (tree : Tree) (s : Expr × Kind) → checked seen tree ≡ Ok s → Agrees named tree s
+pub agrees : (seen named : Names) → Finds seen named → (tree : Tree) (s : Expr × Kind) → check_tree seen tree ≡ Ok s → Agrees named tree s
 agrees seen named h (Leaf p) s d = leaf_agrees seen named h p s d
 agrees seen named h (Not span a) s d =
-    let x = steps-ok (checked seen a) _ s d in
+    let x = steps-ok (check_tree seen a) _ s d in
     let f = needed-ok (not_kind x.0.1) _ _ s x.2 in
     let y = agrees seen named h a x.0 x.1 in
     subst (Agrees named (Not span a)) (inside (expr.Not x.0.0, f.0) s f.2) (record {
@@ -87,7 +87,7 @@ agrees seen named h (Not span a) s d =
       flat = nesting-Not y.r.0 ∙ ap (λ n. n + 1) y.flat ∙ sym (nesting-Not x.0.0);
     })
 agrees seen named h (Minus span a) s d =
-    let x = steps-ok (checked seen a) _ s d in
+    let x = steps-ok (check_tree seen a) _ s d in
     let f = needed-ok (minus_kind x.0.1) _ _ s x.2 in
     let y = agrees seen named h a x.0 x.1 in
     subst (Agrees named (Minus span a)) (inside (expr.Minus x.0.0, f.0) s f.2) (record {
@@ -98,14 +98,14 @@ agrees seen named h (Minus span a) s d =
       flat = nesting-Minus y.r.0 ∙ ap (λ n. n + 1) y.flat ∙ sym (nesting-Minus x.0.0);
     })
 agrees seen named h (Binary sign span a b) s d =
-    let x = steps-ok (checked seen a) _ s d in
-    let v = steps-ok (checked seen b) _ s x.2 in
+    let x = steps-ok (check_tree seen a) _ s d in
+    let v = steps-ok (check_tree seen b) _ s x.2 in
     let f = needed-ok (binary_kind sign x.0.1 v.0.1) _ _ s v.2 in
     let y = agrees seen named h a x.0 x.1 in
     let w = agrees seen named h b v.0 v.1 in
     subst (Agrees named (Binary sign span a b)) (inside (expr.Binary sign x.0.0 v.0.0, f.0) s f.2) (record {
       r = (expr.Binary sign y.r.0 w.r.0, f.0);
-      is = ap (λ (o : Outcome). o >>= (λ (left : Expr × Kind). checked named b >>= (λ (right : Expr × Kind). junction sign span left right))) y.is
+      is = ap (λ (o : Outcome). o >>= (λ (left : Expr × Kind). check_tree named b >>= (λ (right : Expr × Kind). junction sign span left right))) y.is
           ∙ ap (λ (o : Outcome). o >>= (λ (right : Expr × Kind). junction sign span y.r right)) w.is
           ∙ ap (λ (o : Option Kind). needed o (wrong_at span BadKind) >>= (λ (k : Kind). ok (expr.Binary sign y.r.0 w.r.0, k))) (ap₂ (binary_kind sign) y.same w.same ∙ f.1);
       same = refl;

@@ -4,7 +4,7 @@ use Rattle.std.proofs.lemmas.Bool.{and_parts, false≢true}
 use Rattle.std.proofs.lemmas.List.Elements.{All-cons, All-head, All-nil, All-tail}
 use Rattle.std.specs.List.{All, cons_option, filter, filter_map, flat_map, list_all}
 use Rattle.std.specs.Option.{option_and_then, option_map, option_map_or}
-use Rattle.hs_eval.specs.Checking.{Names, checked}
+use Rattle.hs_eval.specs.Checking.{Names, check_tree}
 use Rattle.hs_expr.specs.declared.Expr.{Expr}
 use Rattle.hs_expr.specs.declared.Kind.{Kind}
 use Rattle.hs_expr.specs.declared.Kind.TheVariants as sort

@@ -16,7 +16,7 @@ use Rattle.hs_expr.specs.declared.Value.TheVariants as value
 use Rattle.hs_expr.specs.Evaluation.{Scope, kind_in, binary_kind, not_kind, minus_kind, reads_of}
 use Rattle.hs_expr.proofs.Evaluations.{kind_in-Binary, kind_in-Literal, kind_in-Minus, kind_in-Not, kind_in-Param, kind_in-Slot, reads_of-Binary, reads_of-Literal, reads_of-Minus, reads_of-Not, reads_of-Param, reads_of-Slot}
 use Rattle.hs_expr.specs.Trees.{Tree, Leaf, Not, Minus, Binary}
-use Rattle.hs_eval.specs.Checking.{Names, Outcome, checked, leaf, slot_read}
+use Rattle.hs_eval.specs.Checking.{Names, Outcome, check_tree, leaf, slot_read}
 use Rattle.hs_check.proofs.NoFaults.{demand-ok, needed-ok, steps-ok}
 
 -- What a name stands for has, by numbers, the kind that it has by classes, and so it has in the scope.
@@ -94,11 +94,11 @@ some_same : {A : Type 0} (x y : A) → Some x ≡ Some y → x ≡ y
 some_same x y e = cc
 
 -- Where both are checked, the one over numbers fits.
-pub fits : (seen named : Names) (scope : Scope) → Follow seen named scope → (tree : Tree) (s r : Expr × Kind) → checked seen tree ≡ Ok s → checked named tree ≡ Ok r → Fits scope s.1 r
+pub fits : (seen named : Names) (scope : Scope) → Follow seen named scope → (tree : Tree) (s r : Expr × Kind) → check_tree seen tree ≡ Ok s → check_tree named tree ≡ Ok r → Fits scope s.1 r
 fits seen named scope h (Leaf p) s r d e = leaf-fits seen named scope h p s r d e
 fits seen named scope h (Not span a) s r d e =
-    let x = steps-ok (checked seen a) _ s d in
-    let y = steps-ok (checked named a) _ r e in
+    let x = steps-ok (check_tree seen a) _ s d in
+    let y = steps-ok (check_tree named a) _ r e in
     let f = needed-ok (not_kind x.0.1) _ _ s x.2 in
     let g = needed-ok (not_kind y.0.1) _ _ r y.2 in
     let is = fits seen named scope h a x.0 y.0 x.1 y.1 in
@@ -109,8 +109,8 @@ fits seen named scope h (Not span a) s r d e =
       known = subst (All (IsKnown scope)) (sym (reads_of-Not y.0.0)) is.known;
     }))
 fits seen named scope h (Minus span a) s r d e =
-    let x = steps-ok (checked seen a) _ s d in
-    let y = steps-ok (checked named a) _ r e in
+    let x = steps-ok (check_tree seen a) _ s d in
+    let y = steps-ok (check_tree named a) _ r e in
     let f = needed-ok (minus_kind x.0.1) _ _ s x.2 in
     let g = needed-ok (minus_kind y.0.1) _ _ r y.2 in
     let is = fits seen named scope h a x.0 y.0 x.1 y.1 in
@@ -121,10 +121,10 @@ fits seen named scope h (Minus span a) s r d e =
       known = subst (All (IsKnown scope)) (sym (reads_of-Minus y.0.0)) is.known;
     }))
 fits seen named scope h (Binary sign span a b) s r d e =
-    let x = steps-ok (checked seen a) _ s d in
-    let v = steps-ok (checked seen b) _ s x.2 in
-    let y = steps-ok (checked named a) _ r e in
-    let w = steps-ok (checked named b) _ r y.2 in
+    let x = steps-ok (check_tree seen a) _ s d in
+    let v = steps-ok (check_tree seen b) _ s x.2 in
+    let y = steps-ok (check_tree named a) _ r e in
+    let w = steps-ok (check_tree named b) _ r y.2 in
     let f = needed-ok (binary_kind sign x.0.1 v.0.1) _ _ s v.2 in
     let g = needed-ok (binary_kind sign y.0.1 w.0.1) _ _ r w.2 in
     let is = fits seen named scope h a x.0 y.0 x.1 y.1 in

@@ -13,7 +13,7 @@ use Rattle.hs_expr.specs.declared.NameExpr.{NameExpr}
 use Rattle.hs_expr.specs.declared.Span.{Span}
 use Rattle.hs_expr.specs.Steps.{◌>>=◌, demand, needed}
 use Rattle.hs_expr.specs.Verdict.{each, each_from, fault_if}
-use Rattle.hs_eval.specs.Checking.{Names, checked}
+use Rattle.hs_eval.specs.Checking.{Names, check_tree}
 use Rattle.hs_eval.specs.declared.fault.ExprFault.{ExprFault}
 use Rattle.hs_text.specs.declared.syntax.Definition.{Definition}
 use Rattle.hs_text.specs.declared.syntax.Definition.TheVariants as definition
@@ -193,12 +193,12 @@ kinds_same sort.Text sort.Bool e = cc
 
 -- The expression is checked to be one of this kind.
 abbrev pub IsOfKind : Names → NameExpr → Kind → Type 0
-IsOfKind names expr k = (e : Expr) × (checked names (expr_tree expr) ≡ Ok (e, k))
+IsOfKind names expr k = (e : Expr) × (check_tree names (expr_tree expr) ≡ Ok (e, k))
 
 of_kind : (names : Names) (expr : NameExpr) (k : Kind) → kind_checked names expr ≡ Ok k → IsOfKind names expr k
-of_kind names expr k e = go (checked names (expr_tree expr)) refl e
+of_kind names expr k e = go (check_tree names (expr_tree expr)) refl e
   where
-    go : (c : Result (Expr × Kind) ExprFault) → checked names (expr_tree expr) ≡ c → in_rule (λ (x : Expr × Kind). x.1) c ≡ Ok k → IsOfKind names expr k
+    go : (c : Result (Expr × Kind) ExprFault) → check_tree names (expr_tree expr) ≡ c → in_rule (λ (x : Expr × Kind). x.1) c ≡ Ok k → IsOfKind names expr k
     go (Err f) at e = cc
     go (Ok (a, found)) at e = let same : found ≡ k = cc in (a, at ∙ ap (λ (n : Kind). Ok (a, n)) same)
 

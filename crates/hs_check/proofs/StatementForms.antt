@@ -4,7 +4,7 @@ use Rattle.std.proofs.lemmas.Bool.{leb-true}
 use Rattle.std.proofs.lemmas.Option.{none-some, same_Some}
 use Rattle.std.specs.List.{All, position_or_len}
 use Rattle.std.specs.Option.{option_map, option_map_or, unwrap_or}
-use Rattle.hs_eval.specs.Checking.{Names, Outcome, checked}
+use Rattle.hs_eval.specs.Checking.{Names, Outcome, check_tree}
 use Rattle.hs_expr.specs.declared.Expr.{Expr}
 use Rattle.hs_expr.specs.declared.Kind.{Kind}
 use Rattle.hs_expr.specs.declared.Name.{Name}
@@ -55,12 +55,12 @@ found (Ok x) e is =
     record { kind = x.1; is = ap (λ (a : Expr). Ok (a, x.1)) same; flat = subst (λ (a : Expr). nesting a ≤ 32) same (leb-true (nesting x.0) 32 kept_here.0) }
 
 pub expr_flat : (names : Names) (value : NameExpr) (e : Expr) → expr_meant names value ≡ Some e → nesting e ≤ 32
-expr_flat names value e made = (found (checked names (expr_tree value)) e made).flat
+expr_flat names value e made = (found (check_tree names (expr_tree value)) e made).flat
 
 -- An expression by numbers has the kind that was seen, and reads what the scope knows.
 pub expr_fits : (seen named : Names) (scope : Scope) → Follow seen named scope → (value : NameExpr) (k : Kind) (e : Expr) → IsOfKind seen value k → expr_meant named value ≡ Some e → (kind_in scope e ≡ Some k) × All (IsKnown scope) (reads_of e)
 expr_fits seen named scope follows value k e of_kind made =
-    let here = found (checked named (expr_tree value)) e made in
+    let here = found (check_tree named (expr_tree value)) e made in
     let fit = fits seen named scope follows (expr_tree value) (of_kind.0, k) (e, here.kind) of_kind.1 here.is in
     (fit.inside ∙ ap (λ (l : Kind). Some l) fit.same, fit.known)
 

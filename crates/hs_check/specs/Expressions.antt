@@ -2,7 +2,7 @@
 use Rattle.std.specs.Prelude.{ℕ, List, Bool, Option, None, Ok, Err, if◌then◌else◌, slice_get}
 use Rattle.std.specs.List.{filter_map, position}
 use Rattle.std.specs.Option.{option_and_then, option_map}
-use Rattle.hs_eval.specs.Checking.{Names, Outcome, checked}
+use Rattle.hs_eval.specs.Checking.{Names, Outcome, check_tree}
 use Rattle.hs_eval.specs.Results.{checked_of}
 use Rattle.hs_expr.specs.declared.Expr.{Expr}
 use Rattle.hs_expr.specs.declared.Kind.{Kind}
@@ -54,7 +54,7 @@ expr_found (Ok x) = (checked_of x).expr
 expr_found (Err fault) = None
 
 abbrev pub expr_meant : Names → NameExpr → Option Expr
-expr_meant names expr = expr_found (checked names (expr_tree expr))
+expr_meant names expr = expr_found (check_tree names (expr_tree expr))
 
 -- The condition that a statement means, if it is one of this part of the rule.
 abbrev pub where_in : Names → BlockId → Statement → Option Expr

@@ -1,4 +1,5 @@
 -- What is kept is what was checked.
+use Rattle.hs_expr.specs.declared.expr.TheConstants.{MAX_NESTING}
 use Rattle.std.proofs.Common.{◌≡◌, ◌≤◌, Bool, true, false, if◌then◌else◌, nat_le, Some, None, Result, Ok, Err, refl, sym, ap, ap₂, subst, ◌∙◌}
 use Rattle.std.proofs.lemmas.Bool.{leb-true}
 use Rattle.hs_expr.specs.declared.Expr.{Expr}
@@ -19,18 +20,18 @@ same-expr : (x y : Expr) → Some x ≡ Some y → x ≡ y
 same-expr x y e = cc
 
 abbrev IsOf : Outcome → Checked → Expr → Type 0
-IsOf c told e = (c ≡ Ok (e, told.kind)) × (nesting e ≤ 32)
+IsOf c told e = (c ≡ Ok (e, told.kind)) × (nesting e ≤ MAX_NESTING)
 
 pub kept-checked : (c : Outcome) (told : Checked) (e : Expr) → ok_map checked_of c ≡ Ok told → told.expr ≡ Some e → IsOf c told e
 kept-checked (Err fault) told e h is = cc
-kept-checked (Ok x) told e h is = go (nat_le (nesting x.0) 32) refl (ap (λ (c : Checked). c.expr) same ∙ is) where
+kept-checked (Ok x) told e h is = go (nat_le (nesting x.0) MAX_NESTING) refl (ap (λ (c : Checked). c.expr) same ∙ is) where
   same : checked_of x ≡ told
   same = same-told (checked_of x) told h
 
-  go : (b : Bool) → nat_le (nesting x.0) 32 ≡ b → (checked_of x).expr ≡ Some e → IsOf (Ok x) told e
+  go : (b : Bool) → nat_le (nesting x.0) MAX_NESTING ≡ b → (checked_of x).expr ≡ Some e → IsOf (Ok x) told e
   go true t k =
       let it : x.0 ≡ e = same-expr x.0 e (sym (ap (λ (b : Bool). if b then Some x.0 else None) t) ∙ k) in
-      (ap₂ (λ (a : Expr) (k : Kind). Ok (a, k)) it (ap (λ (c : Checked). c.kind) same), subst (λ (a : Expr). nesting a ≤ 32) it (leb-true (nesting x.0) 32 t))
+      (ap₂ (λ (a : Expr) (k : Kind). Ok (a, k)) it (ap (λ (c : Checked). c.kind) same), subst (λ (a : Expr). nesting a ≤ MAX_NESTING) it (leb-true (nesting x.0) MAX_NESTING t))
   go false t k = absurd (none (sym (ap (λ (b : Bool). if b then Some x.0 else None) t) ∙ k)) where
     none : None ≡ Some e → ⊥
     none h = cc

@@ -1,4 +1,4 @@
--- Checking piece by piece comes to what is held of what `checked` says of the tree.
+-- Checking piece by piece comes to what is held of what `check_tree` says of the tree.
 use Rattle.std.proofs.Common.{ℕ, ◌≡◌, List, [], ◌∷◌, Bool, true, false, Option, Some, None, is_some, Result, Ok, Err, refl, sym, ap, subst, ◌∙◌, MatchOption}
 use Rattle.std.proofs.lemmas.Option.{same_Some}
 use Rattle.std.specs.Option.{option_and_then}
@@ -20,7 +20,7 @@ use Rattle.hs_expr.specs.Trees.{Tree, Leaf, Not, Minus, Binary, trees_after_piec
 use Rattle.hs_eval.specs.declared.fault.ExprFault.{ExprFault}
 use Rattle.hs_eval.specs.declared.fault.Wrong.TheVariants.{NotRead}
 use Rattle.hs_eval.specs.declared.operand.Operand.{Operand}
-use Rattle.hs_eval.specs.Checking.{Names, Outcome, attribute_read, checked, junction, leaf, negation, opposition, param_read, slot_read, wrong_at}
+use Rattle.hs_eval.specs.Checking.{Names, Outcome, attribute_read, check_tree, junction, leaf, negation, opposition, param_read, slot_read, wrong_at}
 use Rattle.hs_eval.specs.Results.{checked_of, ok_map}
 use Rattle.hs_eval.specs.Stacks.{Pile, leaf_operand, operand_of, binary_operand, not_operand, push, minus_operand, checked_operand, stack_after_all, stack_after, shallow_of}
 use Rattle.hs_expr.proofs.Evaluations.{nesting-Literal, nesting-Param, nesting-Slot}
@@ -87,7 +87,7 @@ leaf-bare names (piece.Binary sign span) = refl
 -- PILES
 
 abbrev judged : Names → Tree → Result Operand ExprFault
-judged names tree = ok_map operand_of (checked names tree)
+judged names tree = ok_map operand_of (check_tree names tree)
 
 -- what is held of the trees, the last one first
 abbrev pub pile : Names → List Tree → Pile
@@ -134,15 +134,15 @@ trees_after_piece-pile names (piece.Slot node attribute) trees more e =
     subst (Piled names (piece.Slot node attribute) trees) (same_Some (Leaf (piece.Slot node attribute) ∷ trees) more e) (leaf-step names (piece.Slot node attribute) (pile names trees))
 trees_after_piece-pile names (piece.Not span) [] more e = cc
 trees_after_piece-pile names (piece.Not span) (a ∷ trees) more e =
-    subst (Piled names (piece.Not span) (a ∷ trees)) (same_Some (Not span a ∷ trees) more e) (not-step names span (pile names trees) (checked names a))
+    subst (Piled names (piece.Not span) (a ∷ trees)) (same_Some (Not span a ∷ trees) more e) (not-step names span (pile names trees) (check_tree names a))
 trees_after_piece-pile names (piece.Minus span) [] more e = cc
 trees_after_piece-pile names (piece.Minus span) (a ∷ trees) more e =
-    subst (Piled names (piece.Minus span) (a ∷ trees)) (same_Some (Minus span a ∷ trees) more e) (minus-step names span (pile names trees) (checked names a))
+    subst (Piled names (piece.Minus span) (a ∷ trees)) (same_Some (Minus span a ∷ trees) more e) (minus-step names span (pile names trees) (check_tree names a))
 trees_after_piece-pile names (piece.Binary sign span) [] more e = cc
 trees_after_piece-pile names (piece.Binary sign span) (a ∷ []) more e = cc
 trees_after_piece-pile names (piece.Binary sign span) (b ∷ a ∷ trees) more e =
     subst (Piled names (piece.Binary sign span) (b ∷ a ∷ trees)) (same_Some (Binary sign span a b ∷ trees) more e)
-    (binary-step names sign span (pile names trees) (checked names a) (checked names b))
+    (binary-step names sign span (pile names trees) (check_tree names a) (check_tree names b))
 
 then-ok : (names : Names) (q : Pile) → q ≡ (q >>= stack_after_all names [])
 then-ok names (Ok done) = refl
@@ -181,24 +181,24 @@ same-pieces names ps qs e = ap (λ xs. stack_after_all names xs []) e
 
 -- why there is nothing at the pieces, is why there is nothing for the expression
 pub failure-reported : (names : Names) (ps qs : List Piece) (tree : Tree) (why : Failure ExprFault) → ps ≡ qs → tree_of ps ≡ Some tree →
-    Fails why (stack_after_all names qs []) → Fails why (ok_map checked_of (checked names tree))
+    Fails why (stack_after_all names qs []) → Fails why (ok_map checked_of (check_tree names tree))
 failure-reported names ps qs tree failure.NoMemory same is h = tt
-failure-reported names ps qs tree (failure.Fault f) same is h = go (checked names tree) (run-tree names ps tree is) where
+failure-reported names ps qs tree (failure.Fault f) same is h = go (check_tree names tree) (run-tree names ps tree is) where
   go : (c : Outcome) → stack_after_all names ps [] ≡ push [] (ok_map operand_of c) → ok_map checked_of c ≡ Err f
   go (Ok x) e = let told = same-pieces names ps qs same ∙ h in cc
   go (Err g) e = let told = same-pieces names ps qs same ∙ h in cc
 
 -- what is kept of what lies on top at the end is what is kept of what the expression is checked to be
 end-result : (names : Names) (ps : List Piece) (tree : Tree) (a : Operand) (rest : List Operand) → tree_of ps ≡ Some tree →
-    stack_after_all names ps [] ≡ Ok (a ∷ rest) → ok_map checked_of (checked names tree) ≡ Ok (checked_operand a)
-end-result names ps tree a rest is e = go (checked names tree) (run-tree names ps tree is) where
+    stack_after_all names ps [] ≡ Ok (a ∷ rest) → ok_map checked_of (check_tree names tree) ≡ Ok (checked_operand a)
+end-result names ps tree a rest is e = go (check_tree names tree) (run-tree names ps tree is) where
   go : (c : Outcome) → stack_after_all names ps [] ≡ push [] (ok_map operand_of c) → ok_map checked_of c ≡ Ok (checked_operand a)
   go (Ok y) h = let same : operand_of y ≡ a = cc in ap Ok (sym (released-held y) ∙ ap checked_operand same)
   go (Err g) h = cc
 
 -- an operand is left at the end
 end-some : (names : Names) (ps : List Piece) (tree : Tree) → tree_of ps ≡ Some tree → stack_after_all names ps [] ≡ Ok [] → ⊥
-end-some names ps tree is e = go (checked names tree) (run-tree names ps tree is) where
+end-some names ps tree is e = go (check_tree names tree) (run-tree names ps tree is) where
   go : (c : Outcome) → stack_after_all names ps [] ≡ push [] (ok_map operand_of c) → ⊥
   go (Ok y) h = cc
   go (Err g) h = cc
@@ -213,11 +213,11 @@ top-some names ps qs tree stack rest None same is e h = absurd (end-some names p
 top-some names ps qs tree stack rest (Some a) same is e h = refl
 
 pub top-result : (names : Names) (ps qs : List Piece) (tree : Tree) (stack rest : List Operand) (o : Option Operand) (a : Operand) → ps ≡ qs → tree_of ps ≡ Some tree →
-    stack_after_all names qs [] ≡ Ok stack → Top o stack rest → o ≡ Some a → ok_map checked_of (checked names tree) ≡ Ok (checked_operand a)
+    stack_after_all names qs [] ≡ Ok stack → Top o stack rest → o ≡ Some a → ok_map checked_of (check_tree names tree) ≡ Ok (checked_operand a)
 top-result names ps qs tree stack rest None a same is e h w = cc
 top-result names ps qs tree stack rest (Some b) a same is e h w = step (same-operand b a w) where
   same-operand : (x y : Operand) → Some x ≡ Some y → x ≡ y
   same-operand x y k = cc
 
-  step : b ≡ a → ok_map checked_of (checked names tree) ≡ Ok (checked_operand a)
+  step : b ≡ a → ok_map checked_of (check_tree names tree) ≡ Ok (checked_operand a)
   step k = end-result names ps tree b rest is (same-pieces names ps qs same ∙ e ∙ ap Ok h) ∙ ap (λ x. Ok (checked_operand x)) k

@@ -15,7 +15,7 @@ use Rattle.hs_expr.specs.Steps.{◌>>=◌, demand, needed}
 use Rattle.hs_expr.specs.Trees.{Tree, Leaf, Not, Minus, Binary}
 use Rattle.hs_eval.specs.declared.fault.ExprFault.{ExprFault}
 use Rattle.hs_eval.specs.declared.fault.Wrong.TheVariants.{NotRead}
-use Rattle.hs_eval.specs.Checking.{Names, Outcome, attribute_read, checked, leaf, param_read, slot_read, wrong_at}
+use Rattle.hs_eval.specs.Checking.{Names, Outcome, attribute_read, check_tree, leaf, param_read, slot_read, wrong_at}
 use Rattle.hs_eval.specs.Naming.{Agrees, value_by_names}
 
 abbrev well : Expr × Kind → Outcome
@@ -73,21 +73,21 @@ leaf-same names env (piece.Not span) r e = cc
 leaf-same names env (piece.Minus span) r e = cc
 leaf-same names env (piece.Binary sign span) r e = cc
 
-pub same-value : (names : Names) (env : Env) (tree : Tree) (r : Expr × Kind) → checked names tree ≡ Ok r → Same names env tree r
+pub same-value : (names : Names) (env : Env) (tree : Tree) (r : Expr × Kind) → check_tree names tree ≡ Ok r → Same names env tree r
 same-value names env (Leaf p) r e = leaf-same names env p r e
 same-value names env (Not span a) r e =
-    let x = steps-ok (checked names a) _ r e in
+    let x = steps-ok (check_tree names a) _ r e in
     let f = needed-ok (not_kind x.0.1) _ _ r x.2 in
     subst (Same names env (Not span a)) (inside (expr.Not x.0.0, f.0) r f.2)
     (value_of-Not env x.0.0 ∙ ap (option_and_then not_value) (same-value names env a x.0 x.1))
 same-value names env (Minus span a) r e =
-    let x = steps-ok (checked names a) _ r e in
+    let x = steps-ok (check_tree names a) _ r e in
     let f = needed-ok (minus_kind x.0.1) _ _ r x.2 in
     subst (Same names env (Minus span a)) (inside (expr.Minus x.0.0, f.0) r f.2)
     (value_of-Minus env x.0.0 ∙ ap (option_and_then minus_value) (same-value names env a x.0 x.1))
 same-value names env (Binary sign span a b) r e =
-    let x = steps-ok (checked names a) _ r e in
-    let y = steps-ok (checked names b) _ r x.2 in
+    let x = steps-ok (check_tree names a) _ r e in
+    let y = steps-ok (check_tree names b) _ r x.2 in
     let f = needed-ok (binary_kind sign x.0.1 y.0.1) _ _ r y.2 in
     subst (Same names env (Binary sign span a b)) (inside (expr.Binary sign x.0.0 y.0.0, f.0) r f.2)
     (value_of-Binary env sign x.0.0 y.0.0
@@ -114,21 +114,21 @@ leaf-kinded names scope h (piece.Not span) r e = cc
 leaf-kinded names scope h (piece.Minus span) r e = cc
 leaf-kinded names scope h (piece.Binary sign span) r e = cc
 
-pub its-kind : (names : Names) (scope : Scope) → Agrees names scope → (tree : Tree) (r : Expr × Kind) → checked names tree ≡ Ok r → Kinded scope r
+pub its-kind : (names : Names) (scope : Scope) → Agrees names scope → (tree : Tree) (r : Expr × Kind) → check_tree names tree ≡ Ok r → Kinded scope r
 its-kind names scope h (Leaf p) r e = leaf-kinded names scope h p r e
 its-kind names scope h (Not span a) r e =
-    let x = steps-ok (checked names a) _ r e in
+    let x = steps-ok (check_tree names a) _ r e in
     let f = needed-ok (not_kind x.0.1) _ _ r x.2 in
     subst (Kinded scope) (inside (expr.Not x.0.0, f.0) r f.2)
     (kind_in-Not scope x.0.0 ∙ ap (option_and_then not_kind) (its-kind names scope h a x.0 x.1) ∙ f.1)
 its-kind names scope h (Minus span a) r e =
-    let x = steps-ok (checked names a) _ r e in
+    let x = steps-ok (check_tree names a) _ r e in
     let f = needed-ok (minus_kind x.0.1) _ _ r x.2 in
     subst (Kinded scope) (inside (expr.Minus x.0.0, f.0) r f.2)
     (kind_in-Minus scope x.0.0 ∙ ap (option_and_then minus_kind) (its-kind names scope h a x.0 x.1) ∙ f.1)
 its-kind names scope h (Binary sign span a b) r e =
-    let x = steps-ok (checked names a) _ r e in
-    let y = steps-ok (checked names b) _ r x.2 in
+    let x = steps-ok (check_tree names a) _ r e in
+    let y = steps-ok (check_tree names b) _ r x.2 in
     let f = needed-ok (binary_kind sign x.0.1 y.0.1) _ _ r y.2 in
     subst (Kinded scope) (inside (expr.Binary sign x.0.0 y.0.0, f.0) r f.2)
     (kind_in-Binary scope sign x.0.0 y.0.0

@@ -78,15 +78,15 @@ junction sign span a b = do
   Ok (expr.Binary sign a.0 b.0, k)
 
 -- What the expression is checked to be: the operands first, from the left, then the sign or the word itself.
-abbrev pub checked : Names → Tree → Outcome
-checked names (Leaf p) = leaf names p
-checked names (Not span a) = do
-  operand ← checked names a
+abbrev pub check_tree : Names → Tree → Outcome
+check_tree names (Leaf p) = leaf names p
+check_tree names (Not span a) = do
+  operand ← check_tree names a
   negation span operand
-checked names (Minus span a) = do
-  operand ← checked names a
+check_tree names (Minus span a) = do
+  operand ← check_tree names a
   opposition span operand
-checked names (Binary sign span a b) = do
-  left ← checked names a
-  right ← checked names b
+check_tree names (Binary sign span a b) = do
+  left ← check_tree names a
+  right ← check_tree names b
   junction sign span left right

@@ -1,4 +1,4 @@
--- Checking piece by piece, over a stack of checked operands, the last first. It gives what `checked` gives for the tree.
+-- Checking piece by piece, over a stack of checked operands, the last first. It gives what `check_tree` gives for the tree.
 use Rattle.std.specs.Prelude.{ℕ, ◌+◌, max, List, [], ◌∷◌, if◌then◌else◌, Option, Some, None, option_map, Result, Ok, Err, nat_le}
 use Rattle.hs_eval.specs.declared.checked.Checked.{Checked}
 use Rattle.hs_eval.specs.declared.fault.ExprFault.{ExprFault}
@@ -8,6 +8,7 @@ use Rattle.hs_eval.specs.declared.shallow.Shallow.{Shallow}
 use Rattle.hs_eval.specs.Checking.{Names, leaf, wrong_at}
 use Rattle.hs_eval.specs.Results.{ok_map}
 use Rattle.hs_expr.specs.declared.Expr.{Expr}
+use Rattle.hs_expr.specs.declared.expr.TheConstants.{MAX_NESTING}
 use Rattle.hs_expr.specs.declared.Expr.TheVariants as expr
 use Rattle.hs_expr.specs.declared.Kind.{Kind}
 use Rattle.hs_expr.specs.declared.Piece.{Piece}
@@ -17,9 +18,9 @@ use Rattle.hs_expr.specs.declared.Span.{Span}
 use Rattle.hs_expr.specs.Evaluation.{binary_kind, not_kind, minus_kind, nesting}
 use Rattle.hs_expr.specs.Steps.{◌>>=◌, needed}
 
--- The expression with how deep it nests, where that is at most 32.
+-- The expression with how deep it nests, where that is at most MAX_NESTING.
 abbrev pub shallow_of : ℕ → Expr → Option Shallow
-shallow_of depth e = if nat_le depth 32 then Some (record { expr = e; depth = depth }) else None
+shallow_of depth e = if nat_le depth MAX_NESTING then Some (record { expr = e; depth = depth }) else None
 
 -- One operator more, on one operand and on two.
 abbrev pub unary_shallow : (Expr → Expr) → Option Shallow → Option Shallow

@@ -1,7 +1,7 @@
 ghost use Rattle.std.specs.Prelude.{[]};
 ghost use Rattle.hs_expr.specs.Steps.{Gives, GivesBy, Leaves};
 ghost use Rattle.hs_expr.specs.NameExprs.{expr_tree};
-ghost use Rattle.hs_eval.specs.Checking.{checked};
+ghost use Rattle.hs_eval.specs.Checking.{check_tree};
 ghost use Rattle.hs_eval.specs.Results.{checked_of, ok_map};
 ghost use Rattle.hs_eval.specs.Stacks.{stack_after_all, stack_after, pop};
 
@@ -70,7 +70,7 @@ pub fn check<C: Scope>(
     names: &NameExpr,
     scope: &C,
 ) -> Result<Checked, Failure<ExprFault>>
-    ensures { Gives result (ok_map checked_of (checked (C.names scope.now) (expr_tree names.now))) }
+    ensures { Gives result (ok_map checked_of (check_tree (C.names scope.now) (expr_tree names.now))) }
 {
     match run(alloc, names.pieces.as_slice(), scope) {
         Ok(mut stack) => Ok(stack.pop().unwrap().into_checked()),

@@ -1,4 +1,5 @@
 ghost use Rattle.std.specs.Prelude.{◌≡◌, ◌≤◌, option_map};
+ghost use Rattle.hs_expr.specs.declared.expr.TheConstants.{MAX_NESTING};
 ghost use Rattle.hs_expr.specs.Evaluation.{value_of, nesting, not_value, minus_value};
 ghost use Rattle.hs_eval.specs.ValueRefs.{referent};
 
@@ -31,7 +32,7 @@ fn oppose(value: ValueRef<'_>) -> Option<ValueRef<'_>>
 ///
 /// It calls itself once for each level of the expression: at most 33 calls stand on the stack.
 pub fn eval<'a, E: Env>(expr: &'a Expr, env: &'a E) -> Option<ValueRef<'a>>
-    requires shallow { nesting expr.now ≤ 32 }
+    requires shallow { nesting expr.now ≤ MAX_NESTING }
     ensures { option_map referent result ≡ value_of (E.reads env.now) expr.now }
 {
     match expr {

@@ -28,7 +28,7 @@ pub use checked::Checked;
 pub use checks::check;
 pub use evaluate::eval;
 pub use fault::{ExprFault, Wrong};
-pub use laws::{checked_has_its_kind, checked_is_worth_the_same, kept_is_checked};
+pub use laws::{checked_has_its_kind, checked_is_worth_the_same, kept_expressions_are_checked};
 pub use nests::nests_within;
 pub use reading::Env;
 pub use scope::Scope;

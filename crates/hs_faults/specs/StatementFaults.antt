@@ -11,7 +11,7 @@ use Rattle.hs_expr.specs.declared.NameExpr.{NameExpr}
 use Rattle.hs_expr.specs.declared.Span.{Span}
 use Rattle.hs_expr.specs.Evaluation.{nesting}
 use Rattle.hs_expr.specs.Steps.{◌>>=◌, demand, needed}
-use Rattle.hs_eval.specs.Checking.{Names, checked}
+use Rattle.hs_eval.specs.Checking.{Names, check_tree}
 use Rattle.hs_eval.specs.declared.fault.ExprFault.{ExprFault}
 use Rattle.hs_eval.specs.declared.fault.Wrong.{Wrong}
 use Rattle.hs_eval.specs.declared.fault.Wrong.TheVariants as wrong
@@ -127,7 +127,7 @@ in_rule see (Err fault) = Err (fault_at fault.at (kind_of_wrong fault.kind))
 
 -- The kind that the expression is checked to have, or its first fault.
 abbrev pub kind_checked : Names → NameExpr → Result Kind RuleFault
-kind_checked names expr = in_rule (λ (x : Expr × Kind). x.1) (checked names (expr_tree expr))
+kind_checked names expr = in_rule (λ (x : Expr × Kind). x.1) (check_tree names (expr_tree expr))
 
 -- What the expression is checked to be nests few, where it has no fault.
 abbrev pub nests_few : Result (Expr × Kind) ExprFault → Bool
@@ -135,7 +135,7 @@ nests_few (Ok x) = nat_le (nesting x.0) MAX_NESTING
 nests_few (Err fault) = true
 
 abbrev pub is_shallow : Names → NameExpr → Bool
-is_shallow names expr = nests_few (checked names (expr_tree expr))
+is_shallow names expr = nests_few (check_tree names (expr_tree expr))
 
 abbrev pub same_kind : Kind → Kind → Bool
 same_kind sort.Int sort.Int = true
