@@ -10,7 +10,8 @@ ghost use Rattle.hs_json_model.specs.Written.{lines_of};
 
 use hs_expr::{List, Text, Value as Datum};
 use hs_json_model::{
-    Members, add_line, attrs_value, class_name, datum_value, list_value, text_value, texts_value, with_graph,
+    Members, add_line, attrs_value, class_name, datum_value, list_value, text_value, texts_value,
+    with_graph,
 };
 use hs_session::{Out, Reply, Report, Word};
 use hs_types::{

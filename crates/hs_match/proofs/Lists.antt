@@ -45,5 +45,3 @@ pub none_true : (n d : ℕ) → slice_get (replicate n false) d ≡ Some true �
 none_true zero d h = cc
 none_true (suc n) zero h = cc
 none_true (suc n) (suc d) h = none_true n d h
-
-)

@@ -32,8 +32,6 @@ module _ (supers own : List (List ℕ)) (ranks : List ℕ) (ranked : AreRanked s
       ap (λ ns. each_once ns ++ get_or own c []) (flat_map_agree (features_within supers own (suc n)) (features_within supers own n) (get_or supers c [])
       (λ s e. steady n s (let r = ranked c s e in omega arith)))
 
-}
-
 same_before : (ranks : List ℕ) (rank c k : ℕ) → (k ≡ c → get_or ranks c 0 ≡ rank → ⊥) → comes_before ranks rank c k ≡ comes_before ranks rank (c + 1) k
 same_before ranks rank c k h = elim (cases_eq k c) [
   | inl same ↦ let e : eqb (get_or ranks k 0) rank ≡ false = ne_eqb (get_or ranks k 0) rank (λ e. h same (ap (λ j. get_or ranks j 0) (sym same) ∙ e)) in

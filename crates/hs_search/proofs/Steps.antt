@@ -10,11 +10,6 @@ pub EachFits-push : (Fits : List ℕ → ℕ → Type 0) (front xs : List ℕ) (
 EachFits-push Fits front [] x h f = (rw append-nil at f, tt)
 EachFits-push Fits front (y ∷ xs) x h f = (h.0, EachFits-push Fits (front ++ y ∷ []) xs x h.1 (rw append_assoc f))
 
--- a number in the middle fits after those before it
-pub EachFits-at : (Fits : List ℕ → ℕ → Type 0) (front xs : List ℕ) (x : ℕ) (rest : List ℕ) → EachFits Fits front (xs ++ x ∷ rest) → Fits (front ++ xs) x
-EachFits-at Fits front [] x rest h = rw append-nil h.0
-EachFits-at Fits front (y ∷ xs) x rest h = rw append_assoc at (EachFits-at Fits (front ++ y ∷ []) xs x rest h.1)
-
 -- a list above the bound begins with no number below the floor
 pub IsAbove-floor : (bound : Option (List ℕ)) (y : ℕ) (rest : List ℕ) → y < floor bound → IsAbove bound (y ∷ rest) → ⊥
 IsAbove-floor None y rest lt a = omega arith

@@ -1,3 +1,2 @@
 pub mod Choice
 pub mod Search
-pub mod Varied

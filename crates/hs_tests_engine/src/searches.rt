@@ -1,7 +1,7 @@
 //! Searches over choices.
 
 ghost use Rattle.std.specs.Prelude.{◌≡◌, ◌<◌, ◌≤◌};
-ghost use Rattle.hs_search.specs.Varied.{IsNew, IsVaried};
+ghost use Rattle.hs_tests_engine.specs.Varied.{IsNew, IsVaried};
 
 use hs_search::{Choice, Numbers, exists, least, next_after};
 

@@ -1,6 +1,6 @@
 use Rattle.std.proofs.Common.{◌<◌, ◌≤◌, ◌≡◌, arith, rules, Contains}
-use Rattle.hs_search.proofs.Varying.{not-new}
-use Rattle.hs_search.proofs.tests.VariedChoice.next.Goals as goal
+use Rattle.hs_tests_engine.proofs.Varying.{not-new}
+use Rattle.hs_tests_engine.proofs.searches.VariedChoice.next.Goals as goal
 use borrow.Author.Count.{below_more}
 
 pub returns-in_default-clause-none : goal.returns-in_default-clause-none
