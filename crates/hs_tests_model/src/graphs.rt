@@ -1,6 +1,6 @@
 //! Graphs of written objects.
 
-use crate::model_of;
+use crate::model::{BANK, model_of};
 use hs_expr::{Failure, List, Text, Value};
 use hs_graph::{
     GraphFault, GraphFaultKind, GraphPlace, RawAttr, RawObject, RawRef, RawValue, build,
@@ -8,11 +8,6 @@ use hs_graph::{
 use hs_types::Graph;
 use std::alloc::{AllocError, Global};
 use std::test::Fail;
-
-/// `Client` and `Account` below the abstract `Named`. A client has `name`, `link` to anything and
-/// `accounts`; an account has `name`, `link`, `balance`, `total`, `open` and `owner`.
-const MODEL: &str =
-    r#"{"classes":[{"name":"Named","abstract":true,"attributes":[{"name":"name","type":"EString","default":"?"}],"references":[{"name":"link","target":"Named","upper":-1}]},{"name":"Client","supers":["Named"],"references":[{"name":"accounts","target":"Account","upper":-1}]},{"name":"Account","supers":["Named"],"attributes":[{"name":"balance","type":"EInt","default":5},{"name":"total","type":"ELong"},{"name":"open","type":"EBoolean"}],"references":[{"name":"owner","target":"Client","upper":-1}]}]}"#;
 
 /// The value that is written so: `~` is none.
 fn value(alloc: Global, word: &str) -> Result<RawValue, AllocError> {
@@ -77,7 +72,7 @@ fn objects(alloc: Global, text: &str) -> Result<List<RawObject>, AllocError> {
 }
 
 fn answer(alloc: Global, objects: &List<RawObject>) -> Result<Graph, Failure<GraphFault>> {
-    let Some(meta) = model_of(alloc, MODEL) else {
+    let Some(meta) = model_of(alloc, BANK) else {
         return Err(Failure::NoMemory);
     };
     build(alloc, &meta, objects.as_slice())

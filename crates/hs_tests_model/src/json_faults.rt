@@ -1,8 +1,7 @@
-//! Metamodels and graphs in JSON, and their faults.
+//! Metamodels in JSON, and their faults.
 
 use hs_expr::Failure;
-use hs_json_model::{MetaFailure, graph_fault_text, model_fault_text, read_graph, read_meta};
-use hs_types::{Graph, Meta};
+use hs_json_model::{model_fault_text, read_meta};
 use serde_json::Value;
 use std::alloc::{AllocError, Global};
 

@@ -1,17 +1,12 @@
 //! Graphs that are written.
 
-use crate::model_of;
+use crate::model::{BANK, model_of};
 use hs_expr::{List, Text, Value as Scalar};
 use hs_json_model::{read_graph, with_graph, write_graph};
 use hs_types::{Edge, EdgeNo, FeatureNo, Graph, Meta, Object, ObjectNo, Slot};
 use serde_json::Value;
 use std::alloc::{AllocError, Global};
 use std::test::Fail;
-
-/// `Client` and `Account` below the abstract `Named`, which has `name` and `link` to anything. A client
-/// holds `accounts`; an account has `balance`, `total`, `open` and an `owner`.
-const MODEL: &str =
-    r#"{"classes":[{"name":"Named","abstract":true,"attributes":[{"name":"name","type":"EString","default":"?"}],"references":[{"name":"link","target":"Named","upper":-1}]},{"name":"Client","supers":["Named"],"references":[{"name":"accounts","target":"Account","upper":-1}]},{"name":"Account","supers":["Named"],"attributes":[{"name":"balance","type":"EInt","default":5},{"name":"total","type":"ELong"},{"name":"open","type":"EBoolean"}],"references":[{"name":"owner","target":"Client"}]}]}"#;
 
 /// The graph that the value of this text has at `graph`.
 fn read(alloc: Global, meta: &Meta, text: &str) -> Option<Graph> {
@@ -21,7 +16,7 @@ fn read(alloc: Global, meta: &Meta, text: &str) -> Option<Graph> {
 
 /// The text of the graph that is read of this text.
 fn rewritten(alloc: Global, text: &str) -> Option<Text> {
-    let meta = model_of(alloc, MODEL)?;
+    let meta = model_of(alloc, BANK)?;
     let graph = read(alloc, &meta, text)?;
     write_graph(alloc, &meta, &graph).ok()
 }
@@ -90,7 +85,7 @@ fn worn(alloc: Global) -> Result<Graph, AllocError> {
 
 /// Written, the graph reads as expected.
 fn is_written(alloc: Global, expected: &str) -> Option<bool> {
-    let meta = model_of(alloc, MODEL)?;
+    let meta = model_of(alloc, BANK)?;
     let graph = worn(alloc).ok()?;
     let text = write_graph(alloc, &meta, &graph).ok()?;
     Some(text.as_str() == expected)
@@ -98,13 +93,13 @@ fn is_written(alloc: Global, expected: &str) -> Option<bool> {
 
 /// The edges of the graph that is read of this text.
 fn edges_read(alloc: Global, text: &str) -> Option<List<Edge>> {
-    let meta = model_of(alloc, MODEL)?;
+    let meta = model_of(alloc, BANK)?;
     Some(read(alloc, &meta, text)?.edges)
 }
 
 /// A text, and behind it the graph of one client.
 fn written_behind(alloc: Global) -> Option<String> {
-    let meta = model_of(alloc, MODEL)?;
+    let meta = model_of(alloc, BANK)?;
     let graph = read(
         alloc,
         &meta,

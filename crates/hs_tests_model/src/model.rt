@@ -5,6 +5,12 @@ use hs_types::Meta;
 use serde_json::Value;
 use std::alloc::Global;
 
+/// `Client` and `Account` below the abstract `Named`, which has `name` and `link` to anything. A client
+/// holds `accounts`; an account has `balance`, `total`, `open` and an `owner`.
+#[cfg(test)]
+pub const BANK: &str =
+    r#"{"classes":[{"name":"Named","abstract":true,"attributes":[{"name":"name","type":"EString","default":"?"}],"references":[{"name":"link","target":"Named","upper":-1}]},{"name":"Client","supers":["Named"],"references":[{"name":"accounts","target":"Account","upper":-1}]},{"name":"Account","supers":["Named"],"attributes":[{"name":"balance","type":"EInt","default":5},{"name":"total","type":"ELong"},{"name":"open","type":"EBoolean"}],"references":[{"name":"owner","target":"Client"}]}]}"#;
+
 /// The metamodel that the JSON text is, or none where it is refused.
 pub fn model_of(alloc: Global, text: &str) -> Option<Meta> {
     let value = Value::from_str(alloc, text).ok()?;
