@@ -47,7 +47,7 @@ fn set_meant(alloc: Global, meta: &Arc<Meta>, syntax: &Syntax) -> Result<RuleSet
     ensures set { IfOk result (IsMeant (arc_value meta.now) syntax.now.definitions) }
     ensures meta { IfOk result (λ set. meta_of set ≡ arc_value meta.now) }
     ensures whole { IfOk result (λ set. KeepAll syntax.now.definitions set.rules) }
-    ensures found { Resolve (arc_value meta.now) syntax.now.definitions }
+    ensures found { IfOk result (λ set. Resolve (arc_value meta.now) syntax.now.definitions) }
 {
     meta.is_metamodel();
     let definitions = syntax.definitions.as_slice();
