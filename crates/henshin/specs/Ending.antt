@@ -37,8 +37,10 @@ Writes status.Done text old new = Appends old new text
 Writes status.WriteFault text old new = GainsFront text old new
 Writes _ text old new = ⊥
 
--- A run that came to its writing: the bytes are those that the source had left, where it tells them; report and text are what the command gives for them; and the text was written.
-pub record IsRun (command : Command) (ending : Status) (report : Option Report) (left old new : Option (List ℕ)) : Type 0 where
+-- A run that came to its writing: the bytes are those that the source had left, where it tells
+-- them; report and text are what the command gives for them; and the text was written.
+pub record IsRun (command : Command) (ending : Status) (report : Option Report)
+    (left old new : Option (List ℕ)) : Type 0 where
   pub bytes : List ℕ
   pub text : List ℕ
   pub all_that_was_left : IfSome left (λ told. told ≡ bytes)

@@ -40,13 +40,16 @@ abbrev pub rule_name : RuleSet → ℕ → List ℕ
 rule_name rules n = unwrap_or (option_map (λ rule. rule.name) (slice_get rules.rules n)) []
 
 abbrev pub extension_members : ExtensionNames → List Member
-extension_members x = (codes "edges", list_data number_data x.edges) ∷ (codes "nodes", list_data string x.nodes) ∷ []
+extension_members x =
+    (codes "edges", list_data number_data x.edges) ∷ (codes "nodes", list_data string x.nodes) ∷ []
 
 abbrev pub extension_data : ExtensionNames → Data
 extension_data x = object_data (extension_members x)
 
 abbrev pub gone_members : Metamodel → Gone → List Member
-gone_members m o = (codes "attrs", attrs_data m o.slots) ∷ (codes "class", string (class_name m o.class)) ∷ (codes "name", string o.name) ∷ []
+gone_members m o =
+    (codes "attrs", attrs_data m o.slots) ∷ (codes "class", string (class_name m o.class))
+    ∷ (codes "name", string o.name) ∷ []
 
 abbrev pub gone_data : Metamodel → Gone → Data
 gone_data m o = object_data (gone_members m o)
@@ -54,34 +57,44 @@ gone_data m o = object_data (gone_members m o)
 -- Where a rule was applied, and what it created, overwrote and deleted.
 abbrev pub match_members : MatchNames → List Member
 match_members found =
-    (codes "nodes", list_data string found.nodes) ∷ (codes "edges", list_data number_data found.edges)
+    (codes "nodes", list_data string found.nodes)
+    ∷ (codes "edges", list_data number_data found.edges)
     ∷ (codes "copies", list_data (list_data extension_data) found.copies) ∷ []
 
 abbrev pub change_members : Metamodel → List (List ℕ) → List Value → List Gone → List Member
 change_members m new old gone =
-    (codes "new", list_data string new) ∷ (codes "old", list_data value_data old) ∷ (codes "gone", list_data (gone_data m) gone) ∷ []
+    (codes "new", list_data string new) ∷ (codes "old", list_data value_data old)
+    ∷ (codes "gone", list_data (gone_data m) gone) ∷ []
 
 -- How an attempt went.
 abbrev pub outcome_members : Metamodel → Outcome → List Member
 outcome_members m outcome.Missed = (codes "outcome", string (codes "missed")) ∷ []
 outcome_members m (outcome.Applied found new old gone) =
-    (codes "outcome", string (codes "applied")) ∷ match_members found ++ change_members m new old gone
+    (codes "outcome", string (codes "applied")) ∷ match_members found
+    ++ change_members m new old gone
 
 abbrev pub tried_members : RuleSet → Tried → List Member
 tried_members rules t =
-    (codes "args", args_data t.args) ∷ (codes "attempt", number_data t.attempt) ∷ (codes "rule", string (rule_name rules t.rule))
+    (codes "args", args_data t.args) ∷ (codes "attempt", number_data t.attempt)
+    ∷ (codes "rule", string (rule_name rules t.rule))
     ∷ outcome_members rules.meta.value t.outcome
 
 abbrev pub what_members : RuleSet → What → List Member
 what_members rules (what.One t) = tried_members rules t
-what_members rules (what.Group attempts done) = (codes "attempts", list_data (λ t. object_data (tried_members rules t)) attempts) ∷ (codes "done", boolean done) ∷ []
+what_members rules (what.Group attempts done) =
+    (codes "attempts", list_data (λ t. object_data (tried_members rules t)) attempts)
+    ∷ (codes "done", boolean done) ∷ []
 
 -- Where an entry stands, and whose it is.
 abbrev pub place_members : ℕ → Entry → List Member
-place_members place e = (codes "place", number_data place) ∷ (codes "request", number_data e.request) ∷ (codes "session", number_data e.session) ∷ []
+place_members place e =
+    (codes "place", number_data place) ∷ (codes "request", number_data e.request)
+    ∷ (codes "session", number_data e.session) ∷ []
 
 abbrev pub entry_data : RuleSet → ℕ → Entry → Data
-entry_data rules place e = object (with_members (with_members no_members (what_members rules e.what)) (place_members place e))
+entry_data rules place e =
+    object (with_members (with_members no_members (what_members rules e.what))
+    (place_members place e))
 
 abbrev pub word_text : Word → List ℕ
 word_text word.Ok = codes "ok"
@@ -93,7 +106,8 @@ outs_data outs = object_data (map (λ out. (out.parameter, string out.object)) o
 
 abbrev pub reply_members : Reply → List Member
 reply_members r =
-    (codes "outs", outs_data r.outs) ∷ (codes "places", list_data number_data r.places) ∷ (codes "reply", string (word_text r.word))
+    (codes "outs", outs_data r.outs) ∷ (codes "places", list_data number_data r.places)
+    ∷ (codes "reply", string (word_text r.word))
     ∷ (codes "request", number_data r.request) ∷ (codes "session", number_data r.session) ∷ []
 
 abbrev pub reply_data : Reply → Data
@@ -101,5 +115,6 @@ reply_data r = object_data (reply_members r)
 
 abbrev pub report_text : RuleSet → Report → List ℕ
 report_text rules r =
-    lines_of (map (λ e. entry_data rules e.0 e.1) (enumerate_from 0 r.journal)) ++ lines_of (map reply_data r.replies)
+    lines_of (map (λ e. entry_data rules e.0 e.1) (enumerate_from 0 r.journal))
+    ++ lines_of (map reply_data r.replies)
     ++ line_of (graph_data r.graph.meta.value r.graph.graph)

@@ -15,7 +15,8 @@ use Rattle.henshin.specs.declared.words.Command.{Command}
 use Rattle.henshin.specs.declared.words.Command.TheVariants.{Apply, Validate, Check}
 use Rattle.henshin.specs.ReportText.{report_text}
 
--- The report is the serial report of the requests that the bytes ask for, over the rules and units that their text means.
+-- The report is the serial report of the requests that the bytes ask for, over the rules and units
+-- that their text means.
 pub record IsServed (bytes : List ℕ) (rules : RuleSet) (report : Report) : Type 0 where
   pub held : Contents
   pub syntax : Syntax
@@ -25,8 +26,15 @@ pub record IsServed (bytes : List ℕ) (rules : RuleSet) (report : Report) : Typ
   pub same_model : meta_of rules ≡ held.meta
   pub is_serial : IsSerialReport rules held.graph sessions report
 
--- `apply` gives the serial report and its text, `validate` the problems of the graph, `check` the canonical text of the rules.
+-- `apply` gives the serial report and its text, `validate` the problems of the graph, `check` the
+-- canonical text of the rules.
 abbrev pub IsOutput : Command → List ℕ → Option Report → List ℕ → Type 0
-IsOutput Apply bytes report text = (rules : RuleSet) × (served : Report) × (report ≡ Some served) × IsServed bytes rules served × (text ≡ report_text rules served)
-IsOutput Validate bytes report text = (held : Contents) × (syntax : Syntax) × (sessions : List (List Request)) × (report ≡ None) × IsBuilt bytes held syntax sessions × (text ≡ problems_text held.meta held.graph)
-IsOutput Check bytes report text = (held : Contents) × (syntax : Syntax) × (sessions : List (List Request)) × (report ≡ None) × IsBuilt bytes held syntax sessions × (text ≡ canonical_text syntax.definitions)
+IsOutput Apply bytes report text =
+    (rules : RuleSet) × (served : Report) × (report ≡ Some served) × IsServed bytes rules served
+    × (text ≡ report_text rules served)
+IsOutput Validate bytes report text =
+    (held : Contents) × (syntax : Syntax) × (sessions : List (List Request)) × (report ≡ None)
+    × IsBuilt bytes held syntax sessions × (text ≡ problems_text held.meta held.graph)
+IsOutput Check bytes report text =
+    (held : Contents) × (syntax : Syntax) × (sessions : List (List Request)) × (report ≡ None)
+    × IsBuilt bytes held syntax sessions × (text ≡ canonical_text syntax.definitions)

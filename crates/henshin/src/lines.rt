@@ -39,7 +39,8 @@ fn add_entries(
     rules: &RuleSet,
     entries: &[Entry],
 ) -> Result<(), AllocError>
-    ensures { OnOk result (string_bytes text.new ≡ string_bytes text.old ++ lines_of (map (λ e. entry_data rules.now e.0 e.1) (enumerate_from 0 entries.now))) }
+    ensures { OnOk result (string_bytes text.new ≡ string_bytes text.old
+        ++ lines_of (map (λ e. entry_data rules.now e.0 e.1) (enumerate_from 0 entries.now))) }
 {
     for (place, entry) in entries.iter().enumerate() {
         let line = entry_value(alloc, rules, place, entry)?;
@@ -49,7 +50,8 @@ fn add_entries(
 }
 
 fn add_replies(alloc: Global, text: &mut String, replies: &[Reply]) -> Result<(), AllocError>
-    ensures { OnOk result (string_bytes text.new ≡ string_bytes text.old ++ lines_of (map reply_data replies.now)) }
+    ensures { OnOk result
+        (string_bytes text.new ≡ string_bytes text.old ++ lines_of (map reply_data replies.now)) }
 {
     for reply in replies {
         let line = reply_value(alloc, reply)?;
@@ -106,7 +108,8 @@ fn entry_value(
 }
 
 fn what_members(alloc: Global, rules: &RuleSet, what: &What) -> Result<Members, AllocError>
-    ensures { IfOk result (λ m. members_view m.entries ≡ with_members no_members (what_members rules.now what.now)) }
+    ensures { IfOk result
+        (λ m. members_view m.entries ≡ with_members no_members (what_members rules.now what.now)) }
 {
     match what {
         What::One(tried) => tried_members(alloc, rules, tried),
@@ -120,13 +123,15 @@ fn group_members(
     attempts: &List<Tried>,
     done: bool,
 ) -> Result<Members, AllocError>
-    ensures { IfOk result (λ m. members_view m.entries ≡ with_members no_members (what_members rules.now (What.Group attempts.now done))) }
+    ensures { IfOk result (λ m. members_view m.entries
+        ≡ with_members no_members (what_members rules.now (What.Group attempts.now done))) }
 {
     let attempts = list_value(
         alloc,
         attempts,
         &|tried: &Tried| -> Result<Value, AllocError>
-            ensures { IfOk result (λ v. view v ≡ object_data (tried_members rules.entry.now tried.now)) }
+            ensures { IfOk result
+                (λ v. view v ≡ object_data (tried_members rules.entry.now tried.now)) }
         { tried_value(alloc, rules, tried) },
     )?;
     let mut members = Members::new(alloc);
@@ -142,7 +147,8 @@ fn tried_value(alloc: Global, rules: &RuleSet, tried: &Tried) -> Result<Value, A
 }
 
 fn tried_members(alloc: Global, rules: &RuleSet, tried: &Tried) -> Result<Members, AllocError>
-    ensures { IfOk result (λ m. members_view m.entries ≡ with_members no_members (tried_members rules.now tried.now)) }
+    ensures { IfOk result (λ m. members_view m.entries
+        ≡ with_members no_members (tried_members rules.now tried.now)) }
 {
     let mut members = Members::new(alloc);
     put(&mut members, alloc, "args", args_value(alloc, &tried.args)?)?;
@@ -159,7 +165,8 @@ fn add_outcome(
     meta: &Meta,
     outcome: &Outcome,
 ) -> Result<(), AllocError>
-    ensures { OnOk result (members_view members.new.entries ≡ with_members (members_view members.old.entries) (outcome_members meta.now outcome.now)) }
+    ensures { OnOk result (members_view members.new.entries
+        ≡ with_members (members_view members.old.entries) (outcome_members meta.now outcome.now)) }
 {
     match outcome {
         Outcome::Missed => {
@@ -182,7 +189,8 @@ fn add_outcome(
 
 /// Adds where a rule was applied.
 fn add_match(alloc: Global, members: &mut Members, found: &MatchNames) -> Result<(), AllocError>
-    ensures { OnOk result (members_view members.new.entries ≡ with_members (members_view members.old.entries) (match_members found.now)) }
+    ensures { OnOk result (members_view members.new.entries
+        ≡ with_members (members_view members.old.entries) (match_members found.now)) }
 {
     put(members, alloc, "nodes", texts_value(alloc, &found.nodes)?)?;
     put(members, alloc, "edges", numbers_value(alloc, &found.edges)?)?;
@@ -203,7 +211,8 @@ fn add_changes(
     old: &List<Datum>,
     gone: &List<Gone>,
 ) -> Result<(), AllocError>
-    ensures { OnOk result (members_view members.new.entries ≡ with_members (members_view members.old.entries) (change_members meta.now new.now old.now gone.now)) }
+    ensures { OnOk result (members_view members.new.entries ≡ with_members
+        (members_view members.old.entries) (change_members meta.now new.now old.now gone.now)) }
 {
     put(members, alloc, "new", texts_value(alloc, new)?)?;
     put(members, alloc, "old", old_value(alloc, old)?)?;

@@ -1,9 +1,9 @@
 //! `henshin`: rule-based change of a typed graph, from the command line.
 //!
 //! [`once`](once::once) is the program over any source and sink; `main` hands it the real ones. The
-//! words say the command ([`words`]), the source is read to its end ([`reading`]), the bundle that the
-//! bytes are is read and served ([`serving`]), a report becomes a text ([`lines`]), and the text is
-//! written ([`writing`]). [`status`] has how a run can end.
+//! words say the command ([`words`]), the source is read to its end ([`reading`]), the bundle that
+//! the bytes are is read and served ([`serving`]), a report becomes a text ([`lines`]), and the
+//! text is written ([`writing`]). [`status`] has how a run can end.
 #![tactic(auto)]
 
 mod lines;
@@ -36,7 +36,8 @@ fn main(rt: HostRuntime) -> ExitCode {
     ExitCode::from(status.number())
 }
 
-/// Runs the program over standard input and output. A word that isn't UTF-8 is a faulty command line.
+/// Runs the program over standard input and output. A word that isn't UTF-8 is a faulty command
+/// line.
 fn run(rt: &HostRuntime) -> Status {
     let Ok(args) = env::args(rt) else {
         return Status::Usage;

@@ -34,26 +34,36 @@ pub fn once<S: Source, K: Sink>(
     sink: &mut K,
 ) -> Outcome
     // The words.
-    ensures usage { (result.status ≡ Status.Usage) ↔ ((command : Command) → ¬ AreWords (map string_bytes words.now) command) }
+    ensures usage { (result.status ≡ Status.Usage) ↔
+        ((command : Command) → ¬ AreWords (map string_bytes words.now) command) }
     ensures untouched { result.status ≡ Status.Usage → source.new ≡ source.old }
 
     // The source: its fault is reported exactly if a read failed, and then no further read is made.
-    ensures read_fault { result.status ≡ Status.ReadFault → (S.failed source.new ≡ true) × (S.faults source.new ≡ one_more (S.faults source.old)) }
-    ensures source_well { result.status ≢ Status.ReadFault → S.faults source.new ≡ S.faults source.old }
-    ensures too_long { result.status ≡ Status.TooLong → IfSome (S.left source.old) (λ bytes. BUNDLE_BYTES < length bytes) }
-    ensures read { IsReadToEnd result.status → IfSome (S.left source.old) (λ bytes. (length bytes ≤ BUNDLE_BYTES) × (S.left source.new ≡ Some [])) }
+    ensures read_fault { result.status ≡ Status.ReadFault
+        → (S.failed source.new ≡ true) × (S.faults source.new ≡ one_more (S.faults source.old)) }
+    ensures source_well { result.status ≢ Status.ReadFault
+        → S.faults source.new ≡ S.faults source.old }
+    ensures too_long { result.status ≡ Status.TooLong
+        → IfSome (S.left source.old) (λ bytes. BUNDLE_BYTES < length bytes) }
+    ensures read { IsReadToEnd result.status → IfSome (S.left source.old)
+        (λ bytes. (length bytes ≤ BUNDLE_BYTES) × (S.left source.new ≡ Some [])) }
 
     // The bytes: each refusal has its cause.
-    ensures refused { (refusal : Refusal) → result.status ≡ Status.Refused refusal → IfSome (S.left source.old) (λ bytes. Refuses bytes refusal) }
+    ensures refused { (refusal : Refusal) → result.status ≡ Status.Refused refusal
+        → IfSome (S.left source.old) (λ bytes. Refuses bytes refusal) }
 
     // The sink: its fault is reported exactly if a write failed, and then no further write is made.
     ensures unwritten { ¬ (IsWritten result.status) → sink.new ≡ sink.old }
-    ensures write_fault { result.status ≡ Status.WriteFault → (K.failed sink.new ≡ true) × (K.faults sink.new ≡ one_more (K.faults sink.old)) }
+    ensures write_fault { result.status ≡ Status.WriteFault
+        → (K.failed sink.new ≡ true) × (K.faults sink.new ≡ one_more (K.faults sink.old)) }
     ensures sink_well { result.status ≢ Status.WriteFault → K.faults sink.new ≡ K.faults sink.old }
 
-    // What was written: what the command gives for the bytes, or a prefix of it. Only `apply` reports.
-    ensures served { IsWritten result.status → (command : Command) × AreWords (map string_bytes words.now) command
-        × IsRun command result.status result.report (S.left source.old) (K.written sink.old) (K.written sink.new) }
+    // What was written: what the command gives for the bytes, or a prefix of it. Only `apply`
+    // reports.
+    ensures served { IsWritten result.status
+        → (command : Command) × AreWords (map string_bytes words.now) command
+        × IsRun command result.status result.report (S.left source.old) (K.written sink.old)
+        (K.written sink.new) }
     ensures unreported { ¬ (IsWritten result.status) → result.report ≡ None }
 {
     let Some(command) = command_of(words) else {

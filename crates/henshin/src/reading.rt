@@ -21,11 +21,15 @@ pub fn read_all<S: Source>(
     source: &mut S,
     most: usize,
 ) -> Result<Vec<u8>, Failure<ReadFault>>
-    ensures whole { IfOk result (λ v. IfSome (S.left source.old) (λ bytes. (v.items ≡ bytes) × (S.left source.new ≡ Some []))) }
+    ensures whole { IfOk result (λ v.
+        IfSome (S.left source.old) (λ bytes. (v.items ≡ bytes) × (S.left source.new ≡ Some []))) }
     ensures fits { IfOk result (λ v. length v.items ≤ most) }
-    ensures too_long { result ≡ Err (Failure.Fault ReadFault.TooLong) → IfSome (S.left source.old) (λ bytes. most < length bytes) }
-    ensures failed { result ≡ Err (Failure.Fault ReadFault.Failed) → (S.failed source.new ≡ true) × (S.faults source.new ≡ one_more (S.faults source.old)) }
-    ensures well { result ≢ Err (Failure.Fault ReadFault.Failed) → S.faults source.new ≡ S.faults source.old }
+    ensures too_long { result ≡ Err (Failure.Fault ReadFault.TooLong)
+        → IfSome (S.left source.old) (λ bytes. most < length bytes) }
+    ensures failed { result ≡ Err (Failure.Fault ReadFault.Failed)
+        → (S.failed source.new ≡ true) × (S.faults source.new ≡ one_more (S.faults source.old)) }
+    ensures well { result ≢ Err (Failure.Fault ReadFault.Failed)
+        → S.faults source.new ≡ S.faults source.old }
 {
     let mut piece = empty_piece(alloc)?;
     read_by_pieces(alloc, source, piece.as_mut_slice(), most)
@@ -45,11 +49,15 @@ fn read_by_pieces<S: Source>(
     most: usize,
 ) -> Result<Vec<u8>, Failure<ReadFault>>
     requires { 0 < length piece.old }
-    ensures whole { IfOk result (λ v. IfSome (S.left source.old) (λ bytes. (v.items ≡ bytes) × (S.left source.new ≡ Some []))) }
+    ensures whole { IfOk result (λ v.
+        IfSome (S.left source.old) (λ bytes. (v.items ≡ bytes) × (S.left source.new ≡ Some []))) }
     ensures fits { IfOk result (λ v. length v.items ≤ most) }
-    ensures too_long { result ≡ Err (Failure.Fault ReadFault.TooLong) → IfSome (S.left source.old) (λ bytes. most < length bytes) }
-    ensures failed { result ≡ Err (Failure.Fault ReadFault.Failed) → (S.failed source.new ≡ true) × (S.faults source.new ≡ one_more (S.faults source.old)) }
-    ensures well { result ≢ Err (Failure.Fault ReadFault.Failed) → S.faults source.new ≡ S.faults source.old }
+    ensures too_long { result ≡ Err (Failure.Fault ReadFault.TooLong)
+        → IfSome (S.left source.old) (λ bytes. most < length bytes) }
+    ensures failed { result ≡ Err (Failure.Fault ReadFault.Failed)
+        → (S.failed source.new ≡ true) × (S.faults source.new ≡ one_more (S.faults source.old)) }
+    ensures well { result ≢ Err (Failure.Fault ReadFault.Failed)
+        → S.faults source.new ≡ S.faults source.old }
 {
     let mut bytes = Vec::new(alloc);
     loop {

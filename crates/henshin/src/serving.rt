@@ -50,7 +50,8 @@ pub fn serve(alloc: Global, command: Command, bytes: Vec<u8>) -> Result<Answer, 
 /// The problems of the graph.
 fn validated(alloc: Global, input: &Input) -> Result<Answer, AllocError>
     requires sound { IsSound (arc_value input.now.graph.meta) input.now.graph.graph }
-    ensures { (bytes : List ℕ) (held : Contents) → IsInput bytes held input.now → IfOk result (λ answer. IsOutput Command.Validate bytes answer.report answer.text) }
+    ensures { (bytes : List ℕ) (held : Contents) → IsInput bytes held input.now
+        → IfOk result (λ answer. IsOutput Command.Validate bytes answer.report answer.text) }
 {
     Ok(Answer {
         report: None,
@@ -60,7 +61,8 @@ fn validated(alloc: Global, input: &Input) -> Result<Answer, AllocError>
 
 /// The canonical text of the rules.
 fn checked(alloc: Global, input: &Input) -> Result<Answer, AllocError>
-    ensures { (bytes : List ℕ) (held : Contents) → IsInput bytes held input.now → IfOk result (λ answer. IsOutput Command.Check bytes answer.report answer.text) }
+    ensures { (bytes : List ℕ) (held : Contents) → IsInput bytes held input.now
+        → IfOk result (λ answer. IsOutput Command.Check bytes answer.report answer.text) }
 {
     Ok(Answer {
         report: None,
@@ -72,8 +74,10 @@ fn checked(alloc: Global, input: &Input) -> Result<Answer, AllocError>
 fn applied(alloc: Global, input: Input) -> Result<Answer, AllocError>
     requires sound { IsSound (arc_value input.graph.meta) input.graph.graph }
     requires same_model { arc_value input.graph.meta ≡ meta_of input.rules }
-    requires asked { (found : Option Data) × (journal : Option Data) × (sessions_asked input.rules.rules input.rules.units found journal ≡ Some input.sessions) }
-    ensures { (bytes : List ℕ) (held : Contents) → IsInput bytes held input → IfOk result (λ answer. IsOutput Command.Apply bytes answer.report answer.text) }
+    requires asked { (found : Option Data) × (journal : Option Data)
+        × (sessions_asked input.rules.rules input.rules.units found journal ≡ Some input.sessions) }
+    ensures { (bytes : List ℕ) (held : Contents) → IsInput bytes held input
+        → IfOk result (λ answer. IsOutput Command.Apply bytes answer.report answer.text) }
 {
     let Input {
         graph,
@@ -98,7 +102,8 @@ fn ran(
 ) -> Result<Report, AllocError>
     requires sound { IsSound (arc_value graph.meta) graph.graph }
     requires same_model { arc_value graph.meta ≡ meta_of rules.now }
-    requires asked { (found : Option Data) × (journal : Option Data) × (sessions_asked rules.now.rules rules.now.units found journal ≡ Some sessions.now) }
+    requires asked { (found : Option Data) × (journal : Option Data)
+        × (sessions_asked rules.now.rules rules.now.units found journal ≡ Some sessions.now) }
     ensures { IfOk result (IsSerialReport rules.now graph.graph sessions.now) }
 {
     rule_sets_are_formed();
@@ -109,7 +114,8 @@ fn ran(
 }
 
 fn first_request(sessions: &[List<Request>]) -> Option<&Request>
-    ensures { option_copied result ≡ option_and_then (λ session. slice_get session 0) (slice_get sessions.now 0) }
+    ensures { option_copied result
+        ≡ option_and_then (λ session. slice_get session 0) (slice_get sessions.now 0) }
 {
     sessions.first()?.get(0)
 }

@@ -101,8 +101,8 @@ const TWO_MISSED: &str =
 {\"graph\":[{\"attrs\":{},\"class\":\"Account\",\"name\":\"a1\",\"refs\":{}},{\"attrs\":{},\"class\":\"Account\",\"name\":\"a2\",\"refs\":{}}]}
 ";
 
-/// A box, and a rule that makes another of a class below it, inside the first; what a box has is left
-/// out, or inherited.
+/// A box, and a rule that makes another of a class below it, inside the first; what a box has is
+/// left out, or inherited.
 const WIDE: &str = "{\"meta\": {\"classes\": [
   {\"name\": \"Thing\", \"abstract\": true, \"attributes\": [{\"name\": \"label\", \"type\": \"EString\", \"default\": \"new\"}], \"references\": [{\"name\": \"parts\", \"target\": \"Thing\", \"containment\": true, \"upper\": -1}]},
   {\"name\": \"Box\", \"supers\": [\"Thing\"], \"attributes\": [{\"name\": \"size\", \"type\": \"EInt\"}]}]},

@@ -18,7 +18,8 @@ pub enum Command {
 /// The command that the words are, if they are one.
 pub fn command_of(words: &[String]) -> Option<Command>
     ensures some { IfSome result (AreWords (map string_bytes words.now)) }
-    ensures none { IfNone result ((command : Command) → ¬ AreWords (map string_bytes words.now) command) }
+    ensures none { IfNone result
+        ((command : Command) → ¬ AreWords (map string_bytes words.now) command) }
 {
     match words {
         [word] => command_named(word.as_str()),

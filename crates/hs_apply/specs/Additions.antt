@@ -40,7 +40,8 @@ pub record OnlyMakes (plan : Plan) : Type 0 where
   pub edges_stay : plan.drop_edges ≡ []
   pub slots_stay : plan.writes ≡ []
 
--- The plan of a rule that only adds drops and writes nothing, and makes no more than the rule names.
+-- The plan of a rule that only adds drops and writes nothing, and makes no more than the rule
+-- names.
 abbrev pub AdditionsOnlyMake : Type 0
 AdditionsOnlyMake = (m : Metamodel) (g : Graph) (rule : Rule) (f : Match) → OnlyAdds rule →
     OnlyMakes (plan_of m g rule no_args f)

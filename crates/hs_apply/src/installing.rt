@@ -18,8 +18,8 @@ pub struct Stepped {
     pub new: List<Text>,
 }
 
-/// Carries out a plan that fits the graph and only makes objects and edges. New objects and edges get
-/// the next numbers, new objects the next names.
+/// Carries out a plan that fits the graph and only makes objects and edges. New objects and edges
+/// get the next numbers, new objects the next names.
 pub fn install(alloc: Global, graph: Graph, plan: &Plan) -> Result<Stepped, AllocError>
     requires fits { (m : Metamodel) × Fits m graph plan.now }
     requires only_makes { OnlyMakes plan.now }
@@ -84,7 +84,8 @@ fn hash_name(alloc: Global, k: u64) -> Result<Text, AllocError>
     Ok(Text::from_string(format!(in alloc; "#{k}")?))
 }
 
-/// Adds the made edges, of which the first gets this number, where the first made object gets number
+/// Adds the made edges, of which the first gets this number, where the first made object gets
+/// number
 /// `next`.
 fn add_edges(
     edges: &mut List<Edge>,

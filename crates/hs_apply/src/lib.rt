@@ -1,7 +1,7 @@
 //! Steps: what a rule does at a match, and the graph after it.
 //!
-//! [`plan`] says what a rule does at a match, without drawing numbers or names; [`install`] carries a
-//! plan out and draws them. Today's rules only add, so nothing is deleted or overwritten.
+//! [`plan`] says what a rule does at a match, without drawing numbers or names; [`install`] carries
+//! a plan out and draws them. Today's rules only add, so nothing is deleted or overwritten.
 #![tactic(auto)]
 
 mod installing;

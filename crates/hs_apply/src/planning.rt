@@ -16,13 +16,15 @@ use hs_types::{
 use std::alloc::{AllocError, Global};
 
 /// What a rule that only adds does at a match, without arguments: an object for each node that it
-/// creates, with its class's defaults, and an edge for each edge, in written order. It is the same in
-/// every graph.
+/// creates, with its class's defaults, and an edge for each edge, in written order. It is the same
+/// in every graph.
 pub fn plan(alloc: Global, meta: &Meta, rule: &Rule, found: &Match) -> Result<Plan, AllocError>
     requires only_adds { OnlyAdds rule.now }
-    ensures plan { IfOk result (λ plan. (g : Graph) → plan ≡ plan_of meta.now g rule.now no_args found.now) }
+    ensures plan { IfOk result
+        (λ plan. (g : Graph) → plan ≡ plan_of meta.now g rule.now no_args found.now) }
     ensures only_makes { IfOk result OnlyMakes }
-    ensures few { IfOk result (λ plan. (length plan.make_objects ≤ length rule.now.shape.nodes) × (length plan.make_edges ≤ length rule.now.shape.edges)) }
+    ensures few { IfOk result (λ plan. (length plan.make_objects ≤ length rule.now.shape.nodes)
+        × (length plan.make_edges ≤ length rule.now.shape.edges)) }
 {
     let nodes = rule.shape.nodes.as_slice();
     let edges = rule.shape.edges.as_slice();

@@ -13,7 +13,12 @@ is_due fails call = list_any (λ n. n == call) fails
 
 -- The calls, with one more that failed or not. Their number stands still at 2^32 - 1.
 abbrev pub calls_after : Bool → Calls → Calls
-calls_after failed calls = record { fails = calls.fails; made = min (calls.made + 1) (2 ^ 32 - 1); faults = if failed then one_more calls.faults else calls.faults; failed = failed }
+calls_after failed calls = record {
+  fails = calls.fails;
+  made = min (calls.made + 1) (2 ^ 32 - 1);
+  faults = if failed then one_more calls.faults else calls.faults;
+  failed = failed;
+}
 
 -- A source in memory: the bytes that are left, the most that one read moves, and its calls.
 pub record Supply : Type 0 where

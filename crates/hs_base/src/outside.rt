@@ -38,8 +38,8 @@ pub trait Sink {
     /// The bytes that have been written to it, where it tells them.
     ghost written: { Self → Option (List ℕ) };
 
-    /// Appends the front of `piece`, and says how many of its bytes: at least one, where it has any.
-    /// A call that fails appends nothing.
+    /// Appends the front of `piece`, and says how many of its bytes: at least one, where it has
+    /// any. A call that fails appends nothing.
     fn write(&mut self, piece: &[u8]) -> Result<usize, Failed>
         ensures bound { WritesAtMost result piece.now }
         ensures some { result ≡ Ok 0 → piece.now ≡ [] }

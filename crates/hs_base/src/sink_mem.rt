@@ -27,9 +27,15 @@ impl Model for SinkMem {
 
     ghost Value = { Store };
 
-    ghost view = { λ s. record { written = s.bytes.items; room = s.room; piece = s.piece; calls = s.calls } };
+    ghost view = { λ s. record {
+      written = s.bytes.items;
+      room = s.room;
+      piece = s.piece;
+      calls = s.calls;
+    } };
 
-    ghost invariant = { λ s. (vec_len s.bytes ≤ s.room) × (s.room ≤ vec_capacity s.bytes) × (1 ≤ s.piece) };
+    ghost invariant = { λ s. (vec_len s.bytes ≤ s.room) × (s.room ≤ vec_capacity s.bytes)
+        × (1 ≤ s.piece) };
 }
 
 impl SinkMem {
@@ -72,12 +78,14 @@ impl Sink for SinkMem {
     fn write(&mut self, piece: &[u8]) -> Result<usize, Failed>
         ensures bound { WritesAtMost result piece.now }
         ensures some { result ≡ Ok 0 → piece.now ≡ [] }
-        ensures bytes { WriteAppends (Some self.old.written) (Some self.new.written) result piece.now }
+        ensures bytes { WriteAppends (Some self.old.written) (Some self.new.written) result
+            piece.now }
         ensures counted { self.new.calls.faults ≡ faults_after result self.old.calls.faults }
         ensures noted { self.new.calls.failed ≡ is_err result }
 
         ensures due { is_err result ≡ (is_due self.old.calls.fails (self.old.calls.made + 1)
-            || nat_lt self.old.room (length self.old.written + min self.old.piece (length piece.now))) }
+            || nat_lt self.old.room
+            (length self.old.written + min self.old.piece (length piece.now))) }
         ensures amount { IfOk result (λ n. n ≡ min self.old.piece (length piece.now)) }
         ensures calls { self.new.calls ≡ calls_after (is_err result) self.old.calls }
         ensures settings { (self.new.piece ≡ self.old.piece) × (self.new.room ≡ self.old.room) }

@@ -9,8 +9,8 @@ use crate::{Failed, Source};
 use hs_expr::List;
 use std::marker::Model;
 
-/// A source in memory, which tells its bytes. It moves at most `piece` bytes at a read, and fails at
-/// the calls whose numbers it was given; the first call has the number 1.
+/// A source in memory, which tells its bytes. It moves at most `piece` bytes at a read, and fails
+/// at the calls whose numbers it was given; the first call has the number 1.
 #[derive(Debug, Drop)]
 pub struct SourceMem {
     bytes: List<u8>,
@@ -61,7 +61,8 @@ fn copy_front(into: &mut [u8], from: &[u8], count: usize)
 fn hand_out(left: &[u8], into: &mut [u8], piece: usize) -> usize
     requires { 1 ≤ piece }
     ensures amount { result ≡ min (min piece (length into.old)) (length left.now) }
-    ensures bytes { ReadConsumes {E = Unit {0}} (Some left.now) (Some (drop result left.now)) (Ok result) into.new }
+    ensures bytes { ReadConsumes {E = Unit {0}} (Some left.now) (Some (drop result left.now))
+        (Ok result) into.new }
 {
     let count = piece.min(into.len()).min(left.len());
     copy_front(into, left, count);
@@ -83,7 +84,8 @@ impl Source for SourceMem {
         ensures noted { self.new.calls.failed ≡ is_err result }
 
         ensures due { is_err result ≡ is_due self.old.calls.fails (self.old.calls.made + 1) }
-        ensures amount { IfOk result (λ n. n ≡ min (min self.old.piece (length into.old)) (length self.old.left)) }
+        ensures amount { IfOk result
+            (λ n. n ≡ min (min self.old.piece (length into.old)) (length self.old.left)) }
         ensures calls { self.new.calls ≡ calls_after (is_err result) self.old.calls }
         ensures piece { self.new.piece ≡ self.old.piece }
     {

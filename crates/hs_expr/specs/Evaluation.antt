@@ -19,7 +19,8 @@ kind_of (value.Int n) = kind.Int
 kind_of (value.Bool b) = kind.Bool
 kind_of (value.Text t) = kind.Text
 
--- What an expression reads: a slot by the number of its node and of its attribute, and a parameter by its number.
+-- What an expression reads: a slot by the number of its node and of its attribute, and a parameter
+-- by its number.
 pub record Env : Type 0 where
   pub slot : ℕ → ℕ → Option Value
   pub param : ℕ → Option Value
@@ -42,7 +43,8 @@ is_same (value.Bool a) (value.Bool b) = beq a b
 is_same (value.Text s) (value.Text t) = pointwise nat_eq s t
 is_same _ _ = false
 
--- What a sign makes of its two operands: nothing where they are of no kind that it takes, or where the number leaves 64 bits.
+-- What a sign makes of its two operands: nothing where they are of no kind that it takes, or where
+-- the number leaves 64 bits.
 abbrev pub binary_value : Sign → Value → Value → Option Value
 binary_value sign.Or (value.Bool a) (value.Bool b) = bool_value (a || b)
 binary_value sign.And (value.Bool a) (value.Bool b) = bool_value (a && b)
@@ -65,14 +67,16 @@ abbrev pub minus_value : Value → Option Value
 minus_value (value.Int n) = int_value (neg_ℤ n)
 minus_value _ = None
 
--- One level of an expression, whose operands have these values. An operand without a value leaves the whole without one: both sides of a sign are evaluated, also of `and` and `or`.
+-- One level of an expression, whose operands have these values. An operand without a value leaves
+-- the whole without one: both sides of a sign are evaluated, also of `and` and `or`.
 abbrev pub level : Env → Expr-F (Option Value) → Option Value
 level env (Expr-F.Literal v) = Some v
 level env (Expr-F.Slot read) = env.slot read.node read.attribute
 level env (Expr-F.Param number) = env.param number
 level env (Expr-F.Not a) = option_and_then not_value a
 level env (Expr-F.Minus a) = option_and_then minus_value a
-level env (Expr-F.Binary sign a b) = option_and_then (λ x. option_and_then (binary_value sign x) b) a
+level env (Expr-F.Binary sign a b) =
+    option_and_then (λ x. option_and_then (binary_value sign x) b) a
 
 -- The value of the expression, where it has one.
 abbrev pub value_of : Env → Expr → Option Value
@@ -99,8 +103,11 @@ OverflowsLevel env X operand within (Expr-F.Literal v) = ⊥
 OverflowsLevel env X operand within (Expr-F.Slot read) = ⊥
 OverflowsLevel env X operand within (Expr-F.Param number) = ⊥
 OverflowsLevel env X operand within (Expr-F.Not a) = within a
-OverflowsLevel env X operand within (Expr-F.Minus a) = within a ⊎ OverflowsMinus (value_of env (operand a))
-OverflowsLevel env X operand within (Expr-F.Binary sign a b) = within a ⊎ (within b ⊎ OverflowsBinary sign (value_of env (operand a)) (value_of env (operand b)))
+OverflowsLevel env X operand within (Expr-F.Minus a) =
+    within a ⊎ OverflowsMinus (value_of env (operand a))
+OverflowsLevel env X operand within (Expr-F.Binary sign a b) =
+    within a ⊎ (within b
+    ⊎ OverflowsBinary sign (value_of env (operand a)) (value_of env (operand b)))
 
 -- Somewhere in the expression a sum, a difference, a product or a negation leaves 64 bits.
 abbrev pub Overflows : Env → Expr → Type 0
@@ -119,7 +126,8 @@ reads_of_level (Expr-F.Binary sign a b) = a ++ b
 abbrev pub reads_of : Expr → List SlotRead
 reads_of = fold-Expr (List SlotRead) reads_of_level
 
--- What an expression may read: the kinds of slots and of parameters, by the numbers that `Env` has values for.
+-- What an expression may read: the kinds of slots and of parameters, by the numbers that `Env` has
+-- values for.
 pub record Scope : Type 0 where
   pub slot : ℕ → ℕ → Option Kind
   pub param : ℕ → Option Kind
@@ -157,7 +165,8 @@ kind_of_level scope (Expr-F.Slot read) = scope.slot read.node read.attribute
 kind_of_level scope (Expr-F.Param number) = scope.param number
 kind_of_level scope (Expr-F.Not a) = option_and_then not_kind a
 kind_of_level scope (Expr-F.Minus a) = option_and_then minus_kind a
-kind_of_level scope (Expr-F.Binary sign a b) = option_and_then (λ x. option_and_then (binary_kind sign x) b) a
+kind_of_level scope (Expr-F.Binary sign a b) =
+    option_and_then (λ x. option_and_then (binary_kind sign x) b) a
 
 -- The kind of an expression, where each of its parts has a kind that its place takes.
 abbrev pub kind_in : Scope → Expr → Option Kind
@@ -165,8 +174,10 @@ kind_in scope = fold-Expr (Option Kind) (kind_of_level scope)
 
 -- Each slot and each parameter that has a kind has a value of it.
 pub record IsComplete (env : Env) (scope : Scope) : Type 0 where
-  pub slots : (n a : ℕ) (k : Kind) → scope.slot n a ≡ Some k → (v : Value) × (env.slot n a ≡ Some v) × (kind_of v ≡ k)
-  pub params : (n : ℕ) (k : Kind) → scope.param n ≡ Some k → (v : Value) × (env.param n ≡ Some v) × (kind_of v ≡ k)
+  pub slots : (n a : ℕ) (k : Kind) → scope.slot n a ≡ Some k
+      → (v : Value) × (env.slot n a ≡ Some v) × (kind_of v ≡ k)
+  pub params : (n : ℕ) (k : Kind) → scope.param n ≡ Some k
+      → (v : Value) × (env.param n ≡ Some v) × (kind_of v ≡ k)
 
 -- How many operators stand on one path down the level, beside those of its operands.
 abbrev pub nesting_of_level : Expr-F ℕ → ℕ

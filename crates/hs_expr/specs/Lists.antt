@@ -38,7 +38,8 @@ each_once (n ∷ ns) = n ∷ filter (λ k. not (eqb k n)) (each_once ns)
 -- The places at which an item passes the test, where the first item has this place.
 abbrev pub places_from : {A : Type 0} → ℕ → (A → Bool) → List A → List ℕ
 places_from i test [] = []
-places_from i test (x ∷ xs) = cond (test x) (i ∷ places_from (i + 1) test xs) (places_from (i + 1) test xs)
+places_from i test (x ∷ xs) =
+    cond (test x) (i ∷ places_from (i + 1) test xs) (places_from (i + 1) test xs)
 
 -- The places at which an item passes the test.
 abbrev pub places : {A : Type 0} → (A → Bool) → List A → List ℕ

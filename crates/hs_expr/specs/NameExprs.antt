@@ -5,7 +5,8 @@ use Rattle.hs_expr.specs.declared.piece.Piece.{Piece}
 use Rattle.hs_expr.specs.declared.name_expr.NameExpr.{NameExpr}
 use Rattle.hs_expr.specs.Trees.{Tree, tree_of}
 
-abbrev pub name_expr_if : (ps : List Piece) (test : Bool) → is_some (tree_of ps) ≡ test → Option NameExpr
+abbrev pub name_expr_if : (ps : List Piece) (test : Bool) → is_some (tree_of ps) ≡ test
+    → Option NameExpr
 name_expr_if ps true one = Some (record { pieces = ps; one = one })
 name_expr_if ps false one = None
 

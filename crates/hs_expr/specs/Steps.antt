@@ -4,7 +4,8 @@ use Rattle.hs_expr.specs.declared.failure.Failure.{Failure}
 use Rattle.hs_expr.specs.declared.failure.Failure.TheVariants.{Fault, NoMemory}
 
 infixl 10 ◌>>=◌
--- What comes of two steps is what comes of the second, where the first gives a value; else the first one's fault.
+-- What comes of two steps is what comes of the second, where the first gives a value; else the
+-- first one's fault.
 abbrev pub ◌>>=◌ : {A B F : Type 0} → Result A F → (A → Result B F) → Result B F
 (Ok x) >>= next = next x
 (Err fault) >>= next = Err fault
@@ -50,7 +51,9 @@ abbrev pub Leaves : {A F : Type 0} → Result (Unit {0}) (Failure F) → A → R
 Leaves (Ok done) left meant = meant ≡ Ok left
 Leaves (Err failure) left meant = Fails failure meant
 
--- The fact holds of the value that is given, and the definition finds no fault; else this is its fault.
-abbrev pub GivesWhere : {A F : Type 0} → (A → Type 0) → Result A (Failure F) → Result (Unit {0}) F → Type 0
+-- The fact holds of the value that is given, and the definition finds no fault; else this is its
+-- fault.
+abbrev pub GivesWhere : {A F : Type 0} → (A → Type 0) → Result A (Failure F) → Result (Unit {0}) F
+    → Type 0
 GivesWhere Holds (Ok x) meant = (meant ≡ Ok tt) × Holds x
 GivesWhere Holds (Err failure) meant = Fails failure meant

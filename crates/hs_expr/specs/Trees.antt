@@ -1,4 +1,5 @@
--- Expressions as trees. Their pieces are in postfix order; the tree says which operands each operator has.
+-- Expressions as trees. Their pieces are in postfix order; the tree says which operands each
+-- operator has.
 use Rattle.std.specs.Prelude.{ℕ, List, [], ◌∷◌, ◌++◌, Option, Some, None}
 use Rattle.std.specs.Option.{option_and_then}
 use Rattle.hs_expr.specs.declared.piece.Span.{Span}
@@ -20,14 +21,16 @@ operands (piece.Minus span) = 1
 operands (piece.Binary sign span) = 2
 operands _ = 0
 
--- The trees after a piece, the last one first: an operator takes its operands, which are the last ones.
+-- The trees after a piece, the last one first: an operator takes its operands, which are the last
+-- ones.
 -- There are none where it doesn't find them.
 abbrev pub trees_after_piece : Piece → List Tree → Option (List Tree)
 trees_after_piece (piece.Int value span) trees = Some (Leaf (piece.Int value span) ∷ trees)
 trees_after_piece (piece.Text value span) trees = Some (Leaf (piece.Text value span) ∷ trees)
 trees_after_piece (piece.Bool value span) trees = Some (Leaf (piece.Bool value span) ∷ trees)
 trees_after_piece (piece.Name name) trees = Some (Leaf (piece.Name name) ∷ trees)
-trees_after_piece (piece.Slot node attribute) trees = Some (Leaf (piece.Slot node attribute) ∷ trees)
+trees_after_piece (piece.Slot node attribute) trees =
+    Some (Leaf (piece.Slot node attribute) ∷ trees)
 trees_after_piece (piece.Not span) (a ∷ trees) = Some (Not span a ∷ trees)
 trees_after_piece (piece.Not span) [] = None
 trees_after_piece (piece.Minus span) (a ∷ trees) = Some (Minus span a ∷ trees)
@@ -39,7 +42,8 @@ trees_after_piece (piece.Binary sign span) [] = None
 -- The trees after some pieces.
 abbrev pub trees_after : List Tree → List Piece → Option (List Tree)
 trees_after trees [] = Some trees
-trees_after trees (p ∷ ps) = option_and_then (λ more. trees_after more ps) (trees_after_piece p trees)
+trees_after trees (p ∷ ps) =
+    option_and_then (λ more. trees_after more ps) (trees_after_piece p trees)
 
 -- The tree, where there is one and no other.
 abbrev pub only_tree : List Tree → Option Tree

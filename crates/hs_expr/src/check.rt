@@ -9,7 +9,8 @@ pub fn check_each<T, E: Drop, F: Fn(usize, &T) -> Result<(), E>>(
 ) -> Result<(), E>
     requires { (i : ℕ) (x : _) → slice_get items.now i ≡ Some x.now → F.pre check.now i x }
     ensures { (finds : ℕ → T → List E)
-        → ((i : ℕ) (x : _) (r : _) → slice_get items.now i ≡ Some x.now → F.post check.now i x r → r ≡ verdict (finds i x.now))
+        → ((i : ℕ) (x : _) (r : _) → slice_get items.now i ≡ Some x.now → F.post check.now i x r
+        → r ≡ verdict (finds i x.now))
         → result ≡ verdict (each finds items.now) }
 {
     for (i, x) in items.iter().enumerate() {

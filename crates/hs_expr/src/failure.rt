@@ -57,7 +57,8 @@ pub fn fault_as<T: Drop, F: Drop, G: Drop, W: Fn(F) -> G>(
     wrap: &W,
 ) -> Result<T, Failure<G>>
     requires { W.IsAlwaysCallable wrap.now }
-    ensures { (wide : F → G) → ((fault : F) (made : G) → W.post wrap.now fault made → made ≡ wide fault)
+    ensures { (wide : F → G)
+        → ((fault : F) (made : G) → W.post wrap.now fault made → made ≡ wide fault)
         → result ≡ spec.failing_as wide answer }
 {
     match answer {
@@ -79,7 +80,8 @@ pub fn as_failure<T: Drop, F: Drop>(answer: Result<T, F>) -> Result<T, Failure<F
 
 /// The value, or none where there is a fault.
 pub fn value_of<T: Drop, F: Drop>(answer: Result<T, Failure<F>>) -> Result<Option<T>, AllocError>
-    ensures { (meant : Result T F) → spec.Gives answer meant → IfOk result (λ value. value ≡ result_ok meant) }
+    ensures { (meant : Result T F) → spec.Gives answer meant
+        → IfOk result (λ value. value ≡ result_ok meant) }
 {
     match answer {
         Ok(value) => Ok(Some(value)),

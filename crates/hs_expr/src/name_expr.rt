@@ -14,8 +14,8 @@ pub struct NameExpr {
 impl NameExpr {
     ghost use Rattle.hs_expr.specs.NameExprs.{name_expr};
 
-    /// The expression that has these pieces, if they are one: each operator finds its operands before
-    /// it, and one expression is left.
+    /// The expression that has these pieces, if they are one: each operator finds its operands
+    /// before it, and one expression is left.
     pub fn new(pieces: List<Piece>) -> Option<NameExpr>
         ensures { result ≡ name_expr pieces }
     {

@@ -46,7 +46,8 @@ impl<T> Stack<T> {
     /// Takes the item on top.
     #[tactic(auto, using(crate::proofs::Stacks::turned))]
     pub fn pop(&mut self) -> Option<T>
-        ensures { MatchOption result ((self.old ≡ []) × (self.new ≡ [])) (λ item. self.old ≡ item ∷ self.new) }
+        ensures { MatchOption result ((self.old ≡ []) × (self.new ≡ []))
+            (λ item. self.old ≡ item ∷ self.new) }
     {
         self.inner.pop()
     }
@@ -55,7 +56,8 @@ impl<T> Stack<T> {
     pub fn top(&self) -> Option<T>
     where
         T: Copy,
-        ensures { MatchOption result (self.now ≡ []) (λ item. (rest : List T) × (self.now ≡ item ∷ rest)) }
+        ensures { MatchOption result (self.now ≡ [])
+            (λ item. (rest : List T) × (self.now ≡ item ∷ rest)) }
     {
         self.inner.as_slice().last().copied()
     }

@@ -19,4 +19,6 @@ indexed_name objects n = unwrap_or (option_map (λ o. o.now.name) (indexed_objec
 
 -- The edges of the object of this number, found so too.
 abbrev pub indexed_edges : EdgeIndex → ℕ → List Edge
-indexed_edges edges n = unwrap_or (option_map (λ v. v.items) (slice_get edges.near.items n)) (unwrap_or (option_map (λ v. v.items) (get nat_cmp edges.far n)) [])
+indexed_edges edges n =
+    unwrap_or (option_map (λ v. v.items) (slice_get edges.near.items n))
+    (unwrap_or (option_map (λ v. v.items) (get nat_cmp edges.far n)) [])

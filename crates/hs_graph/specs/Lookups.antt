@@ -28,11 +28,15 @@ is_reference feature = is_some (target_of_kind feature.kind)
 
 -- Feature f is an attribute of this name.
 abbrev pub is_attribute_named : Metamodel → List ℕ → ℕ → Bool
-is_attribute_named m name f = option_map_or (λ feature. same_text name feature.name && is_attribute feature) (feature_at m f) false
+is_attribute_named m name f =
+    option_map_or (λ feature. same_text name feature.name && is_attribute feature) (feature_at m f)
+    false
 
 -- Feature f is a reference of this name.
 abbrev pub is_reference_named : Metamodel → List ℕ → ℕ → Bool
-is_reference_named m name f = option_map_or (λ feature. same_text name feature.name && is_reference feature) (feature_at m f) false
+is_reference_named m name f =
+    option_map_or (λ feature. same_text name feature.name && is_reference feature) (feature_at m f)
+    false
 
 -- The attribute of this name among the features of a class, and the reference.
 abbrev pub attribute_named : Metamodel → ℕ → List ℕ → Option ℕ

@@ -24,18 +24,30 @@ value_of_raw NoValue = None
 
 -- The value that is written for attribute f.
 abbrev pub written_value : Metamodel → List RawAttr → ℕ → Option Value
-written_value m attrs f = option_and_then (λ attr. value_of_raw attr.value) (find (λ attr. is_attribute_named m attr.name f) attrs)
+written_value m attrs f =
+    option_and_then (λ attr. value_of_raw attr.value)
+    (find (λ attr. is_attribute_named m attr.name f) attrs)
 
--- The slot for feature f, if it is an attribute: with the value that is written, or else the default.
+-- The slot for feature f, if it is an attribute: with the value that is written, or else the
+-- default.
 abbrev pub slot_for : Metamodel → List RawAttr → ℕ → Option Slot
-slot_for m attrs f = option_map (λ default. record { attribute = f; value = unwrap_or (written_value m attrs f) default }) (default_of m f)
+slot_for m attrs f =
+    option_map (λ default. record {
+      attribute = f;
+      value = unwrap_or (written_value m attrs f) default;
+    }) (default_of m f)
 
 -- A slot for each attribute of the class, in the class's order.
 abbrev pub slots_for : Metamodel → ℕ → List RawAttr → List Slot
 slots_for m class attrs = filter_map (slot_for m attrs) (features_of m class)
 
 abbrev pub object_of_raw : Metamodel → ℕ → RawObject → Object
-object_of_raw m n object = record { number = n; name = object.name; class = class_of_object m object; slots = slots_for m (class_of_object m object) object.attrs }
+object_of_raw m n object = record {
+  number = n;
+  name = object.name;
+  class = class_of_object m object;
+  slots = slots_for m (class_of_object m object) object.attrs;
+}
 
 -- The objects, numbered from n on.
 abbrev pub objects_from : Metamodel → ℕ → List RawObject → List Object
@@ -45,7 +57,9 @@ objects_from m n (object ∷ objects) = object_of_raw m n object ∷ objects_fro
 -- The edges, numbered from n on.
 abbrev pub edges_of_links : ℕ → List Link → List Edge
 edges_of_links n [] = []
-edges_of_links n (link ∷ links) = record { number = n; source = link.source; reference = link.reference; target = link.target } ∷ edges_of_links (n + 1) links
+edges_of_links n (link ∷ links) =
+    record { number = n; source = link.source; reference = link.reference; target = link.target }
+    ∷ edges_of_links (n + 1) links
 
 -- One above the greatest k of all names `#k` among these, or 0 where there is none.
 abbrev pub next_name_after : List (List ℕ) → ℕ
@@ -54,4 +68,10 @@ next_name_after (name ∷ names) = max (next_after name) (next_name_after names)
 
 -- Objects and edges are numbered by their places.
 unfoldable pub graph_of : Metamodel → List RawObject → Graph
-graph_of m objects = record { objects = objects_from m 0 objects; edges = edges_of_links 0 (all_links m objects); next_object = length objects; next_edge = length (all_links m objects); next_name = next_name_after (object_names objects) }
+graph_of m objects = record {
+  objects = objects_from m 0 objects;
+  edges = edges_of_links 0 (all_links m objects);
+  next_object = length objects;
+  next_edge = length (all_links m objects);
+  next_name = next_name_after (object_names objects);
+}

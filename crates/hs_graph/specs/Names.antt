@@ -25,7 +25,8 @@ number_after n (b ∷ bs) = number_after (n * 10 + (b - 48)) bs
 -- The number k of a name that is `#` and the decimal digits of k.
 abbrev pub hash_number : List ℕ → Option ℕ
 hash_number [] = None
-hash_number (b ∷ digits) = if b == 35 && is_decimal digits then Some (number_after 0 digits) else None
+hash_number (b ∷ digits) =
+    if b == 35 && is_decimal digits then Some (number_after 0 digits) else None
 
 -- The name is `#` and a number above 3,000,000,000.
 abbrev pub is_far : List ℕ → Bool
@@ -33,7 +34,8 @@ is_far name = option_map_or (nat_lt MAX_NAME_NUMBER) (hash_number name) false
 
 -- An object is named by a text of 1 to 128 bytes that isn't `#` and a number above 3,000,000,000.
 abbrev pub is_object_name : List ℕ → Bool
-is_object_name name = nat_le 1 (length name) && nat_le (length name) MAX_NAME_BYTES && not (is_far name)
+is_object_name name =
+    nat_le 1 (length name) && nat_le (length name) MAX_NAME_BYTES && not (is_far name)
 
 -- One above the number k of a name `#k`; 0 of another name.
 abbrev pub next_after : List ℕ → ℕ

@@ -1,4 +1,5 @@
--- The problems of a typed graph: references with too few or too many targets, objects with more than one container, and objects that contain themselves.
+-- The problems of a typed graph: references with too few or too many targets, objects with more
+-- than one container, and objects that contain themselves.
 use Rattle.std.specs.Prelude.{ℕ, ◌≡◌, List, [], ◌++◌, map, length, Bool, true, false, eqb, nat_lt, Option, Some, None}
 use Rattle.std.specs.List.{filter, flat_map, range_with_len}
 use Rattle.std.specs.Option.{option_map_or}
@@ -38,11 +39,14 @@ is_above count (Some most) = nat_lt most count
 abbrev pub count_problems : ℕ → ℕ → ℕ → FeatureKind → List Problem
 count_problems n f count (Attribute data_type default) = []
 count_problems n f count (Reference target containment lower upper) =
-    fault_if (nat_lt count lower) (problem n (kind.Lower f)) ++ fault_if (is_above count upper) (problem n (kind.Upper f))
+    fault_if (nat_lt count lower) (problem n (kind.Lower f))
+    ++ fault_if (is_above count upper) (problem n (kind.Upper f))
 
 -- What is wrong at feature f with an object n that these edges leave.
 abbrev pub feature_problems_by : Metamodel → List Edge → ℕ → ℕ → List Problem
-feature_problems_by m outgoing n f = option_map_or (λ feature. count_problems n f (targets_count outgoing f) feature.kind) (feature_at m f) []
+feature_problems_by m outgoing n f =
+    option_map_or (λ feature. count_problems n f (targets_count outgoing f) feature.kind)
+    (feature_at m f) []
 
 abbrev pub contains_by : FeatureKind → Bool
 contains_by (Attribute data_type default) = false
@@ -58,7 +62,8 @@ containers_count m incoming = length (filter (λ edge. is_containment m edge.ref
 
 -- The objects that object n contains.
 abbrev pub contained_objects : Metamodel → Graph → ℕ → List ℕ
-contained_objects m g n = map (λ edge. edge.target) (filter (λ edge. is_containment m edge.reference) (edges_leaving g n))
+contained_objects m g n =
+    map (λ edge. edge.target) (filter (λ edge. is_containment m edge.reference) (edges_leaving g n))
 
 -- Of each number that an object can have the objects that it contains.
 abbrev pub containment_lists : Metamodel → Graph → List (List ℕ)
@@ -68,7 +73,8 @@ containment_lists m g = map (contained_objects m g) (range_with_len 0 g.next_obj
 abbrev pub is_in_itself : Metamodel → Graph → ℕ → Bool
 is_in_itself m g n = reaches (containment_lists m g) n n
 
--- What is wrong with an object that has these edges: reference by reference in the order of its class, then its containers, then that it contains itself.
+-- What is wrong with an object that has these edges: reference by reference in the order of its
+-- class, then its containers, then that it contains itself.
 abbrev pub problems_by : Metamodel → List Edge → List Edge → Bool → Object → List Problem
 problems_by m outgoing incoming in_itself object =
     flat_map (feature_problems_by m outgoing object.number) (features_of m object.class)
@@ -76,7 +82,9 @@ problems_by m outgoing incoming in_itself object =
     ++ fault_if in_itself (problem object.number kind.Cycle))
 
 abbrev pub problems_at : Metamodel → Graph → Object → List Problem
-problems_at m g object = problems_by m (edges_leaving g object.number) (edges_entering g object.number) (is_in_itself m g object.number) object
+problems_at m g object =
+    problems_by m (edges_leaving g object.number) (edges_entering g object.number)
+    (is_in_itself m g object.number) object
 
 -- The problems of all objects, object by object.
 abbrev pub problems_of : Metamodel → Graph → List Problem

@@ -15,9 +15,15 @@ use Rattle.hs_graph.specs.declared.raw.RawValue.{RawValue}
 use Rattle.hs_graph.specs.declared.raw.RawValue.TheVariants.{Given, NoValue}
 
 abbrev pub sample_graph_class : List ℕ → Bool → List ℕ → List ℕ → Class
-sample_graph_class name is_abstract supers features = record { name = name; is_abstract = is_abstract; supers = supers; features = features }
+sample_graph_class name is_abstract supers features = record {
+  name = name;
+  is_abstract = is_abstract;
+  supers = supers;
+  features = features;
+}
 
--- Clients hold accounts, an account has an owner and a balance, which is 5 where none is given, and both have a name from an abstract class.
+-- Clients hold accounts, an account has an owner and a balance, which is 5 where none is given, and
+-- both have a name from an abstract class.
 abbrev pub sample_bank : Metamodel
 sample_bank = record {
   format = 1;
@@ -33,7 +39,12 @@ sample_bank = record {
 }
 
 abbrev pub sample_object : List ℕ → List ℕ → List RawAttr → List RawRef → RawObject
-sample_object name class attrs refs = record { name = name; class = class; attrs = attrs; refs = refs }
+sample_object name class attrs refs = record {
+  name = name;
+  class = class;
+  attrs = attrs;
+  refs = refs;
+}
 
 abbrev pub sample_attr : List ℕ → RawValue → RawAttr
 sample_attr name value = record { name = name; value = value }
@@ -44,8 +55,11 @@ sample_ref name targets = record { name = name; targets = targets }
 -- A client that holds an account twice, and the account.
 abbrev pub sample_objects : List RawObject
 sample_objects =
-    sample_object (codes "c1") (codes "Client") (sample_attr (codes "name") (Given (value.Text (codes "Ann"))) ∷ []) (sample_ref (codes "accounts") (codes "#7" ∷ codes "#7" ∷ []) ∷ []) ∷
-    sample_object (codes "#7") (codes "Account") [] (sample_ref (codes "owner") (codes "c1" ∷ []) ∷ []) ∷ []
+    sample_object (codes "c1") (codes "Client")
+    (sample_attr (codes "name") (Given (value.Text (codes "Ann"))) ∷ [])
+    (sample_ref (codes "accounts") (codes "#7" ∷ codes "#7" ∷ []) ∷ []) ∷
+    sample_object (codes "#7") (codes "Account") []
+    (sample_ref (codes "owner") (codes "c1" ∷ []) ∷ []) ∷ []
 
 -- Objects with a fault of each kind, but for the limits.
 abbrev pub faulty_objects : List RawObject
@@ -54,8 +68,10 @@ faulty_objects =
     sample_object (codes "x") (codes "Bank") [] [] ∷
     sample_object (codes "x") (codes "Named") [] [] ∷
     sample_object (codes "#09") (codes "Account")
-    (sample_attr (codes "age") (Given (value.Int (pos 1))) ∷ sample_attr (codes "balance") (Given (value.Int (pos 2147483648))) ∷ sample_attr (codes "name") NoValue ∷ [])
-    (sample_ref (codes "accounts") [] ∷ sample_ref (codes "owner") (codes "y" ∷ codes "x" ∷ []) ∷ []) ∷ []
+    (sample_attr (codes "age") (Given (value.Int (pos 1))) ∷ sample_attr (codes "balance")
+    (Given (value.Int (pos 2147483648))) ∷ sample_attr (codes "name") NoValue ∷ [])
+    (sample_ref (codes "accounts") [] ∷ sample_ref (codes "owner") (codes "y" ∷ codes "x" ∷ [])
+    ∷ []) ∷ []
 
 -- Boxes hold boxes, and a box is tied to one other and no more.
 abbrev pub boxes : Metamodel
@@ -71,9 +87,15 @@ abbrev pub box : ℕ → List ℕ → Object
 box n name = record { number = n; name = name; class = 0; slots = [] }
 
 abbrev pub sample_edge : ℕ → ℕ → ℕ → ℕ → Edge
-sample_edge n source reference target = record { number = n; source = source; reference = reference; target = target }
+sample_edge n source reference target = record {
+  number = n;
+  source = source;
+  reference = reference;
+  target = target;
+}
 
--- Box 2 is tied, is in no box and holds box 5; boxes 5 and 7 hold each other; box 7 is tied twice and holds box 9, which isn't tied.
+-- Box 2 is tied, is in no box and holds box 5; boxes 5 and 7 hold each other; box 7 is tied twice
+-- and holds box 9, which isn't tied.
 abbrev pub boxed : Graph
 boxed = record {
   objects = box 2 (codes "a") ∷ box 5 (codes "b") ∷ box 7 (codes "c") ∷ box 9 (codes "d") ∷ [];

@@ -39,8 +39,10 @@ fn attrs_right_at(
     object: &RawObject,
 ) -> Result<(), GraphFault>
     requires { i < length classes.now }
-    ensures { (objects : List RawObject) → classes.now ≡ lookups.classes_of_objects meta.now objects → slice_get objects i ≡ Some object.now
-        → result ≡ verdict (each (spec.attr_faults_at meta.now (lookups.class_of_object meta.now object.now) i) object.now.attrs) }
+    ensures { (objects : List RawObject) → classes.now ≡ lookups.classes_of_objects meta.now objects
+        → slice_get objects i ≡ Some object.now
+        → result ≡ verdict (each (spec.attr_faults_at meta.now
+        (lookups.class_of_object meta.now object.now) i) object.now.attrs) }
 {
     attrs_right_in(meta, classes[i], i, object.attrs.as_slice())
 }
@@ -107,7 +109,11 @@ fn slot_for(
     attribute: FeatureNo,
     default: &Value,
 ) -> Result<Slot, AllocError>
-    ensures { IfOk result (λ slot. slot ≡ record { attribute = attribute; value = unwrap_or (meaning.written_value meta.now attrs.now attribute) default.now }) }
+    ensures { IfOk result
+        (λ slot. slot ≡ record {
+          attribute = attribute;
+          value = unwrap_or (meaning.written_value meta.now attrs.now attribute) default.now;
+        }) }
 {
     Ok(Slot {
         attribute,
@@ -126,7 +132,8 @@ fn written_value<'a>(meta: &Meta, attrs: &'a [RawAttr], attribute: FeatureNo) ->
 
 /// What is written for the attribute.
 fn attr_for<'a>(meta: &Meta, attrs: &'a [RawAttr], attribute: FeatureNo) -> Option<&'a RawAttr>
-    ensures { option_copied result ≡ find (λ attr. lookups.is_attribute_named meta.now attr.name attribute) attrs.now }
+    ensures { option_copied result
+        ≡ find (λ attr. lookups.is_attribute_named meta.now attr.name attribute) attrs.now }
 {
     attrs
         .iter()

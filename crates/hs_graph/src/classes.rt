@@ -19,7 +19,8 @@ pub fn classes_of_objects(
     meta: &Meta,
     objects: &[RawObject],
 ) -> Result<List<ClassNo>, Failure<GraphFault>>
-    ensures { GivesWhere (λ classes. classes ≡ lookups.classes_of_objects meta.now objects.now) result (verdict (spec.object_class_faults meta.now objects.now)) }
+    ensures { GivesWhere (λ classes. classes ≡ lookups.classes_of_objects meta.now objects.now)
+        result (verdict (spec.object_class_faults meta.now objects.now)) }
 {
     let mut classes = List::new(alloc);
     for (i, object) in objects.iter().enumerate() {
@@ -33,7 +34,8 @@ pub fn classes_of_objects(
 
 /// The number of the object's class.
 fn class_of_object(meta: &Meta, i: usize, object: &RawObject) -> Result<ClassNo, GraphFault>
-    ensures { result ≡ unless (spec.object_class_faults_at meta.now i object.now) (lookups.class_of_object meta.now object.now) }
+    ensures { result ≡ unless (spec.object_class_faults_at meta.now i object.now)
+        (lookups.class_of_object meta.now object.now) }
 {
     match meta.class_named(&object.class) {
         None => Err(fault(

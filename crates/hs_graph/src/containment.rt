@@ -22,7 +22,8 @@ pub fn cycles_of(
 ) -> Result<List<bool>, AllocError>
     requires typed { IsTyped meta.now graph.now }
     requires indexed { (n : ℕ) → indexed_edges outgoing.now n ≡ spec.edges_leaving graph.now n }
-    ensures { IfOk result (λ marks. (n : ℕ) → get_or marks n false ≡ spec.is_in_itself meta.now graph.now n) }
+    ensures { IfOk result
+        (λ marks. (n : ℕ) → get_or marks n false ≡ spec.is_in_itself meta.now graph.now n) }
 {
     let containment_lists = containment_lists(alloc, meta, graph, outgoing)?;
     on_cycles(alloc, containment_lists.as_slice())
@@ -46,7 +47,9 @@ fn containment_lists(
 }
 
 fn contained_objects(alloc: Global, meta: &Meta, edges: &[Edge]) -> Result<List<usize>, AllocError>
-    ensures { IfOk result (λ made. made ≡ map (λ edge. edge.target) (filter (λ edge. spec.is_containment meta.now edge.reference) edges.now)) }
+    ensures { IfOk result
+        (λ made. made ≡ map (λ edge. edge.target)
+        (filter (λ edge. spec.is_containment meta.now edge.reference) edges.now)) }
 {
     let mut made = List::new(alloc);
     for edge in edges {

@@ -37,8 +37,10 @@ pub fn all_links(
 ) -> Result<List<Link>, Failure<GraphFault>>
     requires few { length objects.now ≤ MAX_OBJECTS }
     requires resolved { classes.now ≡ classes_of_objects meta.now objects.now }
-    requires numbered { (name : List ℕ) → get_by_text numbers.now name ≡ place_of (object_names objects.now) name }
-    ensures gives { GivesWhere (λ links. links ≡ spec.all_links meta.now objects.now) result (verdict (faults.many_edges meta.now objects.now)) }
+    requires numbered { (name : List ℕ)
+        → get_by_text numbers.now name ≡ place_of (object_names objects.now) name }
+    ensures gives { GivesWhere (λ links. links ≡ spec.all_links meta.now objects.now) result
+        (verdict (faults.many_edges meta.now objects.now)) }
     ensures few { IfOk result (λ links. length links ≤ MAX_EDGES) }
 {
     let mut links = List::new(alloc);
@@ -67,7 +69,8 @@ fn add_links(
     refs: &[RawRef],
     links: &mut List<Link>,
 ) -> Result<(), AllocError>
-    ensures { (names : List (List ℕ)) → ((name : List ℕ) → get_by_text numbers.now name ≡ place_of names name)
+    ensures { (names : List (List ℕ))
+        → ((name : List ℕ) → get_by_text numbers.now name ≡ place_of names name)
         → OnOk result (links.new ≡ links.old ++ spec.links_of meta.now names source class refs.now) }
 {
     for feature in meta.features_of(class) {
@@ -94,7 +97,8 @@ fn targets_at<'a>(meta: &Meta, refs: &'a [RawRef], feature: FeatureNo) -> &'a [T
 
 /// What is written for a reference.
 fn ref_for<'a>(meta: &Meta, refs: &'a [RawRef], feature: FeatureNo) -> Option<&'a RawRef>
-    ensures { option_copied result ≡ find (λ written. named meta.now written.name feature) refs.now }
+    ensures { option_copied result
+        ≡ find (λ written. named meta.now written.name feature) refs.now }
 {
     refs.iter()
         .find(|written| is_reference_named(meta, &written.name, feature))
@@ -108,8 +112,10 @@ fn add_targets(
     targets: &[Text],
     links: &mut List<Link>,
 ) -> Result<(), AllocError>
-    ensures { (names : List (List ℕ)) → ((name : List ℕ) → get_by_text numbers.now name ≡ place_of names name)
-        → OnOk result (links.new ≡ links.old ++ map (spec.link_of names source reference) targets.now) }
+    ensures { (names : List (List ℕ))
+        → ((name : List ℕ) → get_by_text numbers.now name ≡ place_of names name)
+        → OnOk result (links.new
+        ≡ links.old ++ map (spec.link_of names source reference) targets.now) }
 {
     for target in targets {
         links.push(Link {
@@ -142,7 +148,12 @@ pub fn numbered_edges(alloc: Global, links: &[Link]) -> Result<List<Edge>, Alloc
 
 /// The edge of this number that a link is.
 fn edge_of(number: EdgeNo, link: &Link) -> Edge
-    ensures { result ≡ record { number = number; source = link.now.source; reference = link.now.reference; target = link.now.target } }
+    ensures { result ≡ record {
+      number = number;
+      source = link.now.source;
+      reference = link.now.reference;
+      target = link.now.target;
+    } }
 {
     Edge {
         number,

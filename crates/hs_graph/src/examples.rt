@@ -15,14 +15,23 @@ ghost use Rattle.hs_graph.specs.declared.problem.ProblemKind.TheVariants as trou
 #[tactic(auto, unfolding(crate::specs::Meaning::graph_of))]
 pub fn meanings()
     ensures faults { graph_faults sample_bank sample_objects ≡ [] }
-    ensures names { map (λ object. object.name) (graph_of sample_bank sample_objects).objects ≡ codes "c1" ∷ codes "#7" ∷ [] }
-    ensures classes { map (λ object. object.class) (graph_of sample_bank sample_objects).objects ≡ 1 ∷ 2 ∷ [] }
-    ensures slots { map (λ object. map (λ slot. slot.attribute) object.slots) (graph_of sample_bank sample_objects).objects ≡ (0 ∷ []) ∷ (0 ∷ 2 ∷ []) ∷ [] }
-    ensures values { map (λ object. map (λ slot. slot.value) object.slots) (graph_of sample_bank sample_objects).objects ≡ (value.Text (codes "Ann") ∷ []) ∷ (value.Text [] ∷ value.Int (pos 5) ∷ []) ∷ [] }
-    ensures sources { map (λ edge. edge.source) (graph_of sample_bank sample_objects).edges ≡ 0 ∷ 0 ∷ 1 ∷ [] }
-    ensures references { map (λ edge. edge.reference) (graph_of sample_bank sample_objects).edges ≡ 1 ∷ 1 ∷ 3 ∷ [] }
-    ensures targets { map (λ edge. edge.target) (graph_of sample_bank sample_objects).edges ≡ 1 ∷ 1 ∷ 0 ∷ [] }
-    ensures numbers { map (λ edge. edge.number) (graph_of sample_bank sample_objects).edges ≡ 0 ∷ 1 ∷ 2 ∷ [] }
+    ensures names { map (λ object. object.name) (graph_of sample_bank sample_objects).objects
+        ≡ codes "c1" ∷ codes "#7" ∷ [] }
+    ensures classes { map (λ object. object.class) (graph_of sample_bank sample_objects).objects
+        ≡ 1 ∷ 2 ∷ [] }
+    ensures slots { map (λ object. map (λ slot. slot.attribute) object.slots)
+        (graph_of sample_bank sample_objects).objects ≡ (0 ∷ []) ∷ (0 ∷ 2 ∷ []) ∷ [] }
+    ensures values { map (λ object. map (λ slot. slot.value) object.slots)
+        (graph_of sample_bank sample_objects).objects
+        ≡ (value.Text (codes "Ann") ∷ []) ∷ (value.Text [] ∷ value.Int (pos 5) ∷ []) ∷ [] }
+    ensures sources { map (λ edge. edge.source) (graph_of sample_bank sample_objects).edges
+        ≡ 0 ∷ 0 ∷ 1 ∷ [] }
+    ensures references { map (λ edge. edge.reference) (graph_of sample_bank sample_objects).edges
+        ≡ 1 ∷ 1 ∷ 3 ∷ [] }
+    ensures targets { map (λ edge. edge.target) (graph_of sample_bank sample_objects).edges
+        ≡ 1 ∷ 1 ∷ 0 ∷ [] }
+    ensures numbers { map (λ edge. edge.number) (graph_of sample_bank sample_objects).edges
+        ≡ 0 ∷ 1 ∷ 2 ∷ [] }
     ensures next { (graph_of sample_bank sample_objects).next_name ≡ 8 }
 {}
 
@@ -30,9 +39,12 @@ pub fn meanings()
 pub fn wrongs()
     ensures { graph_faults sample_bank faulty_objects ≡
         graph_fault (place.ObjectName 0) kind.Name ∷ graph_fault (place.ObjectName 2) kind.Twice
-        ∷ graph_fault (place.ObjectClass 1) kind.UnknownClass ∷ graph_fault (place.Object 2) kind.Abstract
-        ∷ graph_fault (place.Attr 3 0) kind.UnknownAttribute ∷ graph_fault (place.Attr 3 1) kind.BadValue ∷ graph_fault (place.Attr 3 2) kind.BadValue
-        ∷ graph_fault (place.Ref 3 0) kind.UnknownReference ∷ graph_fault (place.Target 3 1 0) kind.UnknownTarget ∷ graph_fault (place.Target 3 1 1) kind.BadTarget ∷ [] }
+        ∷ graph_fault (place.ObjectClass 1) kind.UnknownClass
+        ∷ graph_fault (place.Object 2) kind.Abstract
+        ∷ graph_fault (place.Attr 3 0) kind.UnknownAttribute ∷ graph_fault (place.Attr 3 1)
+        kind.BadValue ∷ graph_fault (place.Attr 3 2) kind.BadValue
+        ∷ graph_fault (place.Ref 3 0) kind.UnknownReference ∷ graph_fault (place.Target 3 1 0)
+        kind.UnknownTarget ∷ graph_fault (place.Target 3 1 1) kind.BadTarget ∷ [] }
 {}
 
 /// Of names that count and names that don't.

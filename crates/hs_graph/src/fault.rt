@@ -45,8 +45,8 @@ impl GraphFaultKind {
     }
 }
 
-/// Where a fault is. Objects go by their indices in what is written, and so do the attributes and the
-/// references of one, and the targets of a reference.
+/// Where a fault is. Objects go by their indices in what is written, and so do the attributes and
+/// the references of one, and the targets of a reference.
 #[derive(Clone, Copy, PartialEq, Eq, Debug)]
 pub enum GraphPlace {
     Graph,

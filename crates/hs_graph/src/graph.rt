@@ -29,7 +29,8 @@ pub fn build(
     meta: &Meta,
     objects: &[RawObject],
 ) -> Result<Graph, Failure<GraphFault>>
-    ensures { Gives result (unless (spec.graph_faults meta.now objects.now) (meaning.graph_of meta.now objects.now)) }
+    ensures { Gives result
+        (unless (spec.graph_faults meta.now objects.now) (meaning.graph_of meta.now objects.now)) }
 {
     as_failure(objects_few(objects))?;
     let named = names_of(alloc, objects)?;
@@ -55,11 +56,15 @@ fn build_named(
     objects: &[RawObject],
 ) -> Result<Graph, Failure<GraphFault>>
     requires few { length objects.now ≤ MAX_OBJECTS }
-    requires numbered { (name : List ℕ) → get_by_text named.now.numbers name ≡ lookups.place_of (lookups.object_names objects.now) name }
-    requires next { named.now.next_name ≡ meaning.next_name_after (lookups.object_names objects.now) }
+    requires numbered { (name : List ℕ) → get_by_text named.now.numbers name
+        ≡ lookups.place_of (lookups.object_names objects.now) name }
+    requires next { named.now.next_name
+        ≡ meaning.next_name_after (lookups.object_names objects.now) }
     ensures { (before : List GraphFault) → verdict before ≡ Ok tt
-        → Gives result (unless (before ++ spec.object_class_faults meta.now objects.now ++ spec.attr_faults meta.now objects.now
-        ++ spec.ref_faults meta.now objects.now ++ spec.many_edges meta.now objects.now) (meaning.graph_of meta.now objects.now)) }
+        → Gives result (unless (before ++ spec.object_class_faults meta.now objects.now
+        ++ spec.attr_faults meta.now objects.now
+        ++ spec.ref_faults meta.now objects.now ++ spec.many_edges meta.now objects.now)
+        (meaning.graph_of meta.now objects.now)) }
 {
     let classes = classes_of_objects(alloc, meta, objects)?;
     let classes = classes.as_slice();

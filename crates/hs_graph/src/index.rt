@@ -34,7 +34,8 @@ pub struct EdgeIndex {
 
 /// The objects of the graph by their numbers: of one number the first.
 pub fn objects_of(alloc: Global, graph: &Graph) -> Result<ObjectIndex<'_>, AllocError>
-    ensures { IfOk result (λ objects. (n : ℕ) → option_map (λ o. o.now) (indexed_object objects n) ≡ object_at graph.now n) }
+    ensures { IfOk result (λ objects. (n : ℕ)
+        → option_map (λ o. o.now) (indexed_object objects n) ≡ object_at graph.now n) }
 {
     let mut objects = no_objects(alloc, graph.objects.len())?;
     for object in graph.objects.as_slice() {
@@ -55,7 +56,8 @@ fn no_objects<'a>(alloc: Global, places: usize) -> Result<ObjectIndex<'a>, Alloc
 /// Adds an object, unless there is one of its number.
 fn add_object<'a>(objects: &mut ObjectIndex<'a>, object: &'a Object) -> Result<(), AllocError>
     ensures { OnOk result ((n : ℕ) → option_map (λ o. o.now) (indexed_object objects.new n)
-        ≡ option_or (option_map (λ o. o.now) (indexed_object objects.old n)) (if eqb object.now.number n then Some object.now else None)) }
+        ≡ option_or (option_map (λ o. o.now) (indexed_object objects.old n))
+        (if eqb object.now.number n then Some object.now else None)) }
 {
     let place = object.number as usize;
     if place < objects.near.len() {
@@ -122,7 +124,8 @@ fn no_edges(alloc: Global, places: usize) -> Result<EdgeIndex, AllocError>
 }
 
 fn no_rows(alloc: Global, places: usize) -> Result<Vec<Vec<Edge>>, AllocError>
-    ensures { IfOk result (λ near. (n : ℕ) → unwrap_or (option_map (λ v. v.items) (slice_get near.items n)) [] ≡ []) }
+    ensures { IfOk result
+        (λ near. (n : ℕ) → unwrap_or (option_map (λ v. v.items) (slice_get near.items n)) [] ≡ []) }
 {
     let mut near = Vec::new(alloc);
     for _place in 0..places {
@@ -138,7 +141,8 @@ fn add_edge(
     object: usize,
     edge: Edge,
 ) -> Result<(), AllocError>
-    ensures { OnOk result ((n : ℕ) → indexed_edges edges.new n ≡ indexed_edges edges.old n ++ (if eqb object n then edge ∷ [] else [])) }
+    ensures { OnOk result ((n : ℕ) → indexed_edges edges.new n
+        ≡ indexed_edges edges.old n ++ (if eqb object n then edge ∷ [] else [])) }
 {
     if object < edges.near.len() {
         edges.near[object].push(edge)?;
@@ -154,8 +158,10 @@ fn add_far(
     object: usize,
     edge: Edge,
 ) -> Result<(), AllocError>
-    ensures { OnOk result ((n : ℕ) → unwrap_or (option_map (λ v. v.items) (get nat_cmp far.new n)) []
-        ≡ unwrap_or (option_map (λ v. v.items) (get nat_cmp far.old n)) [] ++ (if eqb object n then edge ∷ [] else [])) }
+    ensures { OnOk result
+        ((n : ℕ) → unwrap_or (option_map (λ v. v.items) (get nat_cmp far.new n)) []
+        ≡ unwrap_or (option_map (λ v. v.items) (get nat_cmp far.old n)) []
+        ++ (if eqb object n then edge ∷ [] else [])) }
 {
     if let Some(edges) = far.get_mut(&object) {
         edges.push(edge)?;

@@ -1,5 +1,5 @@
-//! Objects as they are written over a metamodel, the first fault of what is written, the typed graph
-//! that it denotes where it has none, and the problems of a typed graph.
+//! Objects as they are written over a metamodel, the first fault of what is written, the typed
+//! graph that it denotes where it has none, and the problems of a typed graph.
 #![tactic(auto)]
 
 mod attrs;

@@ -11,7 +11,8 @@ use hs_types::limits::{MAX_NAME_BYTES, MAX_NAME_NUMBER};
 /// One above the number k of a name `#k`, 0 of another name, and none of a text that can't name an
 /// object.
 pub fn next_after(name: &Text) -> Option<u64>
-    ensures { result ≡ (if spec.is_object_name name.now then Some (spec.next_after name.now) else None) }
+    ensures { result ≡ (if spec.is_object_name name.now then Some (spec.next_after name.now)
+        else None) }
 {
     if name.is_empty() || name.len() > MAX_NAME_BYTES {
         return None;

@@ -31,7 +31,10 @@ pub struct Named {
 /// The numbers of the objects, or the first name that can't name an object or comes again.
 pub fn names_of(alloc: Global, objects: &[RawObject]) -> Result<Named, Failure<GraphFault>>
     requires { length objects.now ≤ MAX_OBJECTS }
-    ensures { GivesWhere (λ named. ((name : List ℕ) → get_by_text named.numbers name ≡ lookups.place_of (lookups.object_names objects.now) name) × (named.next_name ≡ meaning.next_name_after (lookups.object_names objects.now))) result (verdict (spec.name_faults objects.now)) }
+    ensures { GivesWhere (λ named. ((name : List ℕ)
+        → get_by_text named.numbers name ≡ lookups.place_of (lookups.object_names objects.now) name)
+        × (named.next_name ≡ meaning.next_name_after (lookups.object_names objects.now))) result
+        (verdict (spec.name_faults objects.now)) }
 {
     let mut numbers = Numbers::new(alloc);
     let mut next_name = 0;
@@ -56,7 +59,8 @@ fn add_name(
     numbers: &mut Numbers,
 ) -> Result<bool, AllocError>
     ensures known { IfOk result (λ known. known ≡ is_some (get_by_text numbers.old name.now)) }
-    ensures added { IfOk result (λ known. (other : List ℕ) → get_by_text numbers.new other ≡ cond (same_text name.now other) (Some number) (get_by_text numbers.old other)) }
+    ensures added { IfOk result (λ known. (other : List ℕ) → get_by_text numbers.new other
+        ≡ cond (same_text name.now other) (Some number) (get_by_text numbers.old other)) }
 {
     let key = String::from_str(alloc, name.as_str())?;
     Ok(numbers.insert(key, number)?.is_some())

@@ -37,7 +37,13 @@ fn object_of(
     number: ObjectNo,
     object: &RawObject,
 ) -> Result<Object, AllocError>
-    ensures { IfOk result (λ made. made ≡ record { number = number; name = object.now.name; class = class; slots = spec.slots_for meta.now class object.now.attrs }) }
+    ensures { IfOk result
+        (λ made. made ≡ record {
+          number = number;
+          name = object.now.name;
+          class = class;
+          slots = spec.slots_for meta.now class object.now.attrs;
+        }) }
 {
     Ok(Object {
         number,

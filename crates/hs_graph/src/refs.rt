@@ -13,8 +13,8 @@ use crate::raw::{RawObject, RawRef};
 use hs_expr::{Text, check_each, fault_if};
 use hs_types::{ClassNo, FeatureNo, Meta, ObjectNo};
 
-/// The first reference that the object's class doesn't have, target that isn't there, or target of a
-/// class that the reference doesn't lead to.
+/// The first reference that the object's class doesn't have, target that isn't there, or target of
+/// a class that the reference doesn't lead to.
 #[tactic(auto, using(crate::proofs::Lists::class_stands))]
 pub fn refs_right(
     meta: &Meta,
@@ -23,7 +23,8 @@ pub fn refs_right(
     objects: &[RawObject],
 ) -> Result<(), GraphFault>
     requires resolved { classes.now ≡ classes_of_objects meta.now objects.now }
-    requires numbered { (name : List ℕ) → get_by_text numbers.now name ≡ place_of (object_names objects.now) name }
+    requires numbered { (name : List ℕ)
+        → get_by_text numbers.now name ≡ place_of (object_names objects.now) name }
     ensures { result ≡ verdict (spec.ref_faults meta.now objects.now) }
 {
     check_each(
@@ -40,8 +41,12 @@ fn refs_right_at(
     object: &RawObject,
 ) -> Result<(), GraphFault>
     requires { i < length classes.now }
-    ensures { (objects : List RawObject) → classes.now ≡ classes_of_objects meta.now objects → ((name : List ℕ) → get_by_text numbers.now name ≡ place_of (object_names objects) name) → slice_get objects i ≡ Some object.now
-        → result ≡ verdict (each (spec.ref_faults_at meta.now (object_names objects) (classes_of_objects meta.now objects) (class_of_object meta.now object.now) i) object.now.refs) }
+    ensures { (objects : List RawObject) → classes.now ≡ classes_of_objects meta.now objects
+        → ((name : List ℕ) → get_by_text numbers.now name ≡ place_of (object_names objects) name)
+        → slice_get objects i ≡ Some object.now
+        → result ≡ verdict (each (spec.ref_faults_at meta.now (object_names objects)
+        (classes_of_objects meta.now objects) (class_of_object meta.now object.now) i)
+        object.now.refs) }
 {
     refs_right_in(
         meta,
@@ -61,7 +66,8 @@ fn refs_right_in(
     i: usize,
     refs: &[RawRef],
 ) -> Result<(), GraphFault>
-    ensures { (names : List (List ℕ)) → ((name : List ℕ) → get_by_text numbers.now name ≡ place_of names name)
+    ensures { (names : List (List ℕ))
+        → ((name : List ℕ) → get_by_text numbers.now name ≡ place_of names name)
         → result ≡ verdict (each (spec.ref_faults_at meta.now names classes.now class i) refs.now) }
 {
     check_each(
@@ -79,7 +85,8 @@ fn ref_right(
     r: usize,
     written: &RawRef,
 ) -> Result<(), GraphFault>
-    ensures { (names : List (List ℕ)) → ((name : List ℕ) → get_by_text numbers.now name ≡ place_of names name)
+    ensures { (names : List (List ℕ))
+        → ((name : List ℕ) → get_by_text numbers.now name ≡ place_of names name)
         → result ≡ verdict (spec.ref_faults_at meta.now names classes.now class i r written.now) }
 {
     match reference_named(meta, class, &written.name) {
@@ -111,8 +118,10 @@ fn targets_right(
     r: usize,
     targets: &[Text],
 ) -> Result<(), GraphFault>
-    ensures { (names : List (List ℕ)) → ((name : List ℕ) → get_by_text numbers.now name ≡ place_of names name)
-        → result ≡ verdict (each (spec.target_faults_at meta.now names classes.now reference i r) targets.now) }
+    ensures { (names : List (List ℕ))
+        → ((name : List ℕ) → get_by_text numbers.now name ≡ place_of names name)
+        → result ≡ verdict (each (spec.target_faults_at meta.now names classes.now reference i r)
+        targets.now) }
 {
     check_each(
         targets,
@@ -135,8 +144,10 @@ fn target_right(
     place: GraphPlace,
     name: &Text,
 ) -> Result<(), GraphFault>
-    ensures { (names : List (List ℕ)) → ((name : List ℕ) → get_by_text numbers.now name ≡ place_of names name)
-        → result ≡ verdict (spec.reach_faults meta.now classes.now reference place (place_of names name.now)) }
+    ensures { (names : List (List ℕ))
+        → ((name : List ℕ) → get_by_text numbers.now name ≡ place_of names name)
+        → result ≡ verdict (spec.reach_faults meta.now classes.now reference place
+        (place_of names name.now)) }
 {
     match numbers.get(name.as_str()) {
         Some(target) => fault_if(

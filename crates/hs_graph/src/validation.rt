@@ -52,7 +52,8 @@ fn add_problems_at(
     requires leave { (n : ℕ) → indexed_edges outgoing.now n ≡ spec.edges_leaving graph.now n }
     requires arrive { (n : ℕ) → indexed_edges incoming.now n ≡ spec.edges_entering graph.now n }
     requires marked { (n : ℕ) → get_or cycles.now n false ≡ spec.is_in_itself meta.now graph.now n }
-    ensures { OnOk result (problems.new ≡ problems.old ++ spec.problems_at meta.now graph.now object.now) }
+    ensures { OnOk result
+        (problems.new ≡ problems.old ++ spec.problems_at meta.now graph.now object.now) }
 {
     let number = object.number as usize;
     add_problems(
@@ -83,7 +84,8 @@ fn add_problems(
     object: &Object,
     problems: &mut List<Problem>,
 ) -> Result<(), AllocError>
-    ensures { OnOk result (problems.new ≡ problems.old ++ spec.problems_by meta.now outgoing.now incoming.now is_in_itself object.now) }
+    ensures { OnOk result (problems.new ≡ problems.old
+        ++ spec.problems_by meta.now outgoing.now incoming.now is_in_itself object.now) }
 {
     add_feature_problems(
         meta,
@@ -127,7 +129,8 @@ fn add_feature_problems(
     features: &[FeatureNo],
     problems: &mut List<Problem>,
 ) -> Result<(), AllocError>
-    ensures { OnOk result (problems.new ≡ problems.old ++ flat_map (spec.feature_problems_by meta.now outgoing.now object) features.now) }
+    ensures { OnOk result (problems.new ≡ problems.old
+        ++ flat_map (spec.feature_problems_by meta.now outgoing.now object) features.now) }
 {
     for feature in features {
         add_count_problems(
@@ -148,7 +151,8 @@ fn add_count_problems(
     count: u64,
     problems: &mut List<Problem>,
 ) -> Result<(), AllocError>
-    ensures { OnOk result (problems.new ≡ problems.old ++ option_map_or (λ found. spec.count_problems object feature count found.kind) (feature_at meta.now feature) []) }
+    ensures { OnOk result (problems.new ≡ problems.old ++ option_map_or (λ found.
+        spec.count_problems object feature count found.kind) (feature_at meta.now feature) []) }
 {
     match meta.feature(feature) {
         Some(found) => match &found.kind {
@@ -195,7 +199,8 @@ fn targets_count(edges: &[Edge], reference: FeatureNo) -> u64
 }
 
 fn containers_count(meta: &Meta, edges: &[Edge]) -> u64
-    ensures { result ≡ length (filter (λ edge. spec.is_containment meta.now edge.reference) edges.now) }
+    ensures { result ≡ length
+        (filter (λ edge. spec.is_containment meta.now edge.reference) edges.now) }
 {
     edges
         .iter()

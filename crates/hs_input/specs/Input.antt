@@ -1,4 +1,5 @@
--- What bytes hold that are read to their end: a bundle, and the syntax of its rules, in which nothing is wrong.
+-- What bytes hold that are read to their end: a bundle, and the syntax of its rules, in which
+-- nothing is wrong.
 use Rattle.std.specs.Prelude.{ℕ, ◌≡◌, List, Option, Some, Ok}
 use Rattle.std.specs.Arc.{arc_value}
 use Rattle.std.specs.Str.{chars}
@@ -22,10 +23,13 @@ pub record IsRead (bytes : List ℕ) (held : Contents) (syntax : Syntax) : Type 
 
 -- What is asked for of the rules and units that the syntax means.
 abbrev pub asked : Contents → Syntax → Option (List (List Request))
-asked held syntax = sessions_asked (rules_meant held.meta syntax.definitions) (units_meant held.meta syntax.definitions) held.sessions held.journal
+asked held syntax =
+    sessions_asked (rules_meant held.meta syntax.definitions)
+    (units_meant held.meta syntax.definitions) held.sessions held.journal
 
 -- What is asked for is built: these requests of each session.
-pub record IsBuilt (bytes : List ℕ) (held : Contents) (syntax : Syntax) (sessions : List (List Request)) : Type 0 where
+pub record IsBuilt (bytes : List ℕ) (held : Contents) (syntax : Syntax)
+    (sessions : List (List Request)) : Type 0 where
   pub is_read : IsRead bytes held syntax
   pub is_asked : asked held syntax ≡ Some sessions
 

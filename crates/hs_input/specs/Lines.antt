@@ -20,6 +20,8 @@ rule_front Rule = codes "henshin: bad-rule "
 -- The line that tells a refusal.
 abbrev pub refusal_line : Refusal → List ℕ
 refusal_line (NoBundle fault) = bundle_fault_line fault
-refusal_line (BadText line column kind) = codes "henshin: bad-text " ++ place_text line column (text_fault_word kind)
-refusal_line (BadRule fault) = rule_front fault.within ++ place_text fault.line fault.column (fault_word fault.kind)
+refusal_line (BadText line column kind) =
+    codes "henshin: bad-text " ++ place_text line column (text_fault_word kind)
+refusal_line (BadRule fault) =
+    rule_front fault.within ++ place_text fault.line fault.column (fault_word fault.kind)
 refusal_line NotBuilt = codes "henshin: not-built"

@@ -1,4 +1,5 @@
--- Why bytes are refused: each refusal with its cause. What comes first is told: the bundle, its text of rules, the rules and units, and what isn't built.
+-- Why bytes are refused: each refusal with its cause. What comes first is told: the bundle, its
+-- text of rules, the rules and units, and what isn't built.
 use Rattle.std.specs.Prelude.{ℕ, ◌≡◌, List, None, Result, Ok, Err}
 use Rattle.std.specs.Str.{chars}
 use Rattle.hs_expr.specs.declared.failure.Failure.{Failure}
@@ -14,9 +15,14 @@ use Rattle.hs_input.specs.Input.{IsRead, asked}
 
 abbrev pub Refuses : List ℕ → Refusal → Type 0
 Refuses bytes (NoBundle fault) = IsBundleAnswer bytes (Err fault)
-Refuses bytes (BadText line column kind) = (held : Contents) × IsBundleAnswer bytes (Ok held) × IsTextFault (chars held.rules) (record { line = line; column = column; kind = kind })
-Refuses bytes (BadRule fault) = (held : Contents) × (syntax : Syntax) × IsBundleAnswer bytes (Ok held) × IsSyntaxOf (chars held.rules) syntax × (verdict (faults_of held.meta syntax.definitions) ≡ Err fault)
-Refuses bytes NotBuilt = (held : Contents) × (syntax : Syntax) × IsRead bytes held syntax × (asked held syntax ≡ None)
+Refuses bytes (BadText line column kind) =
+    (held : Contents) × IsBundleAnswer bytes (Ok held)
+    × IsTextFault (chars held.rules) (record { line = line; column = column; kind = kind })
+Refuses bytes (BadRule fault) =
+    (held : Contents) × (syntax : Syntax) × IsBundleAnswer bytes (Ok held) × IsSyntaxOf
+    (chars held.rules) syntax × (verdict (faults_of held.meta syntax.definitions) ≡ Err fault)
+Refuses bytes NotBuilt =
+    (held : Contents) × (syntax : Syntax) × IsRead bytes held syntax × (asked held syntax ≡ None)
 
 -- A refusal has its cause; want of memory is free.
 abbrev pub Tells : {X : Type 0} → List ℕ → Result X (Failure Refusal) → Type 0

@@ -39,7 +39,9 @@ only_member key d = if has_one_member d then get key d else None
 
 -- What the one request of the one session calls, of which it says no more.
 abbrev pub call_in : Data → Option (List ℕ)
-call_in sessions = option_and_then as_str (option_and_then (only_member (codes "call")) (option_and_then only_item (only_item sessions)))
+call_in sessions =
+    option_and_then as_str (option_and_then (only_member (codes "call"))
+    (option_and_then only_item (only_item sessions)))
 
 -- What the sessions call.
 abbrev pub called : Option Data → Option (List ℕ)
@@ -59,18 +61,30 @@ is_called sessions rule = option_map_or (same_text rule.name) (called sessions) 
 
 -- The rule that is called, where that is built.
 abbrev pub rule_called : List Rule → List RuleUnit → Option Data → Option Rule
-rule_called rules units sessions = option_and_then (λ rule. if is_built_rule rule && is_called sessions rule then Some rule else None) (only_rule rules units)
+rule_called rules units sessions =
+    option_and_then (λ rule. if is_built_rule rule && is_called sessions rule then Some rule
+    else None) (only_rule rules units)
 
--- The request that calls this, and says no more: it has no arguments, a fuel of 1,000, and isn't a group.
+-- The request that calls this, and says no more: it has no arguments, a fuel of 1,000, and isn't a
+-- group.
 abbrev pub plain_call : List ℕ → Request
-plain_call name = record { call = name; args = record { list = [] }; fuel = 1000; group = false; some_fuel = lit≤ tt; fuel_bound = lit≤ tt }
+plain_call name = record {
+  call = name;
+  args = record { list = [] };
+  fuel = 1000;
+  group = false;
+  some_fuel = lit≤ tt;
+  fuel_bound = lit≤ tt;
+}
 
 -- One session, whose one request calls the rule.
 abbrev pub once : Rule → List (List Request)
 once rule = (plain_call rule.name ∷ []) ∷ []
 
--- The requests of each session in a bundle with these sessions and this journal, with these rules and units.
-abbrev pub sessions_asked : List Rule → List RuleUnit → Option Data → Option Data → Option (List (List Request))
+-- The requests of each session in a bundle with these sessions and this journal, with these rules
+-- and units.
+abbrev pub sessions_asked : List Rule → List RuleUnit → Option Data → Option Data
+    → Option (List (List Request))
 sessions_asked rules units sessions journal =
     if not (has_none journal) then None
     else if has_none sessions then Some []

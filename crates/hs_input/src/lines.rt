@@ -26,7 +26,8 @@ impl Refusal {
 }
 
 fn rule_line(alloc: Global, fault: &RuleFault) -> Result<Text, AllocError>
-    ensures { IfOk result (λ line. line ≡ spec.rule_front fault.now.within ++ spec.place_text fault.now.line fault.now.column (fault_word fault.now.kind)) }
+    ensures { IfOk result (λ line. line ≡ spec.rule_front fault.now.within
+        ++ spec.place_text fault.now.line fault.now.column (fault_word fault.now.kind)) }
 {
     let front = rule_front(fault.within);
     placed(alloc, front, fault.line, fault.column, fault.kind.word())

@@ -77,7 +77,8 @@ fn bundle_of(alloc: Global, bytes: &[u8]) -> Result<Bundle, Failure<Refusal>>
 
 fn syntax_of(alloc: Global, text: &str) -> Result<Syntax, Failure<Refusal>>
     ensures parsed { IfOk result (IsSyntaxOf (chars text.now)) }
-    ensures refused { (bytes : List ℕ) (held : Contents) → held.rules ≡ text.now → IsBundleAnswer bytes (Ok held) → Tells bytes result }
+    ensures refused { (bytes : List ℕ) (held : Contents) → held.rules ≡ text.now
+        → IsBundleAnswer bytes (Ok held) → Tells bytes result }
 {
     fault_as(
         parse(alloc, text),
@@ -95,10 +96,13 @@ fn syntax_of(alloc: Global, text: &str) -> Result<Syntax, Failure<Refusal>>
 
 /// The rules and units that the syntax means, where nothing is wrong in them.
 fn rules_of(alloc: Global, meta: &Arc<Meta>, syntax: &Syntax) -> Result<RuleSet, Failure<Refusal>>
-    ensures right { IfOk result (λ set. verdict (faults_of (arc_value meta.now) syntax.now.definitions) ≡ Ok tt) }
+    ensures right { IfOk result
+        (λ set. verdict (faults_of (arc_value meta.now) syntax.now.definitions) ≡ Ok tt) }
     ensures meant { IfOk result (IsMeant (arc_value meta.now) syntax.now.definitions) }
     ensures model { IfOk result (λ set. meta_of set ≡ arc_value meta.now) }
-    ensures refused { (bytes : List ℕ) (held : Contents) → held.meta ≡ arc_value meta.now → IsBundleAnswer bytes (Ok held) → IsSyntaxOf (chars held.rules) syntax.now → Tells bytes result }
+    ensures refused { (bytes : List ℕ) (held : Contents) → held.meta ≡ arc_value meta.now
+        → IsBundleAnswer bytes (Ok held) → IsSyntaxOf (chars held.rules) syntax.now
+        → Tells bytes result }
 {
     fault_as(
         check(alloc, meta, syntax),
@@ -115,8 +119,11 @@ fn sessions_built(
     sessions: Option<&Value>,
     journal: Option<&Value>,
 ) -> Result<List<List<Request>>, Failure<Refusal>>
-    ensures asked { IfOk result (λ found. asking.sessions_asked rules.now.rules rules.now.units (seen sessions.entry) (seen journal.entry) ≡ Some found) }
-    ensures refused { (bytes : List ℕ) (held : Contents) (syntax : Syntax) → held.sessions ≡ seen sessions.entry → held.journal ≡ seen journal.entry → IsMeant held.meta syntax.definitions rules.now → IsRead bytes held syntax → Tells bytes result }
+    ensures asked { IfOk result (λ found. asking.sessions_asked rules.now.rules rules.now.units
+        (seen sessions.entry) (seen journal.entry) ≡ Some found) }
+    ensures refused { (bytes : List ℕ) (held : Contents) (syntax : Syntax)
+        → held.sessions ≡ seen sessions.entry → held.journal ≡ seen journal.entry → IsMeant
+        held.meta syntax.definitions rules.now → IsRead bytes held syntax → Tells bytes result }
 {
     match sessions_asked(alloc, rules, sessions, journal)? {
         Some(sessions) => Ok(sessions),

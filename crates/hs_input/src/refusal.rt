@@ -7,8 +7,8 @@ use hs_text::FaultKind;
 pub enum Refusal {
     /// They are no bundle, or no metamodel or graph is in it.
     NoBundle(BundleFault),
-    /// The text of the rules is none, from this place on: lines and columns count from 1, and a column
-    /// counts characters.
+    /// The text of the rules is none, from this place on: lines and columns count from 1, and a
+    /// column counts characters.
     BadText {
         line: usize,
         column: usize,

@@ -24,7 +24,9 @@ pub fn sessions_asked(
     sessions: Option<&Value>,
     journal: Option<&Value>,
 ) -> Result<Option<List<List<Request>>>, AllocError>
-    ensures { IfOk result (λ asked. asked ≡ spec.sessions_asked rules.now.rules rules.now.units (seen sessions.entry) (seen journal.entry)) }
+    ensures { IfOk result
+        (λ asked. asked ≡ spec.sessions_asked rules.now.rules rules.now.units (seen sessions.entry)
+        (seen journal.entry)) }
 {
     if !has_none(journal) {
         return Ok(None);
@@ -56,7 +58,8 @@ fn is_empty_list(value: &Value) -> bool
 
 /// The one rule, where the sessions call it and it only adds.
 fn rule_called<'a>(rules: &'a RuleSet, sessions: Option<&Value>) -> Option<&'a Rule>
-    ensures { option_copied result ≡ spec.rule_called rules.now.rules rules.now.units (seen sessions.entry) }
+    ensures { option_copied result
+        ≡ spec.rule_called rules.now.rules rules.now.units (seen sessions.entry) }
 {
     let rule = only_rule(rules)?;
     if is_built_rule(rule) && is_called(rule, sessions) {

@@ -1,4 +1,5 @@
--- The problems of a graph as they are printed: a line of compact JSON for each, and a last one that counts them.
+-- The problems of a graph as they are printed: a line of compact JSON for each, and a last one that
+-- counts them.
 use Rattle.std.specs.Prelude.{ℕ, List, [], ◌∷◌, ◌++◌, codes, length}
 use Rattle.std.specs.List.{flat_map}
 use Rattle.std.specs.Option.{option_map, unwrap_or}
@@ -14,15 +15,20 @@ use Rattle.hs_json_model.specs.Written.{Member, class_name, line_of, name_in, ob
 
 -- The name of a feature, after that of the class that owns it.
 abbrev pub owned_name : Metamodel → ℕ → List ℕ
-owned_name m f = unwrap_or (option_map (λ feature. class_name m feature.owner ++ (codes "." ++ feature.name)) (feature_at m f)) []
+owned_name m f =
+    unwrap_or (option_map (λ feature. class_name m feature.owner ++ (codes "." ++ feature.name))
+    (feature_at m f)) []
 
 -- What is reported of the object of this name: too few or too many targets of a reference.
 abbrev pub bound_members : Metamodel → List ℕ → List ℕ → ℕ → List Member
-bound_members m object word f = (codes "object", string object) ∷ (codes "problem", string word) ∷ (codes "reference", string (owned_name m f)) ∷ []
+bound_members m object word f =
+    (codes "object", string object) ∷ (codes "problem", string word)
+    ∷ (codes "reference", string (owned_name m f)) ∷ []
 
 -- What is reported of how the object of this name is contained.
 abbrev pub containment_members : List ℕ → List ℕ → List Member
-containment_members object word = (codes "object", string object) ∷ (codes "problem", string word) ∷ []
+containment_members object word =
+    (codes "object", string object) ∷ (codes "problem", string word) ∷ []
 
 abbrev pub problem_members : Metamodel → List ℕ → ProblemKind → List Member
 problem_members m object (Lower f) = bound_members m object (codes "lower") f
@@ -41,8 +47,10 @@ abbrev pub count_data : ℕ → Data
 count_data n = object_data (count_members n)
 
 abbrev pub problem_lines : Metamodel → (ℕ → List ℕ) → List Problem → List ℕ
-problem_lines m names problems = flat_map (λ problem. line_of (problem_data m names problem)) problems
+problem_lines m names problems =
+    flat_map (λ problem. line_of (problem_data m names problem)) problems
 
 -- The problems of the graph, and then how many there are.
 abbrev pub problems_text : Metamodel → Graph → List ℕ
-problems_text m g = problem_lines m (name_in g) (problems_of m g) ++ line_of (count_data (length (problems_of m g)))
+problems_text m g =
+    problem_lines m (name_in g) (problems_of m g) ++ line_of (count_data (length (problems_of m g)))

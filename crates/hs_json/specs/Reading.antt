@@ -22,7 +22,8 @@ use Rattle.hs_json.specs.declared.reading.Bundle.{Bundle}
 use Rattle.hs_json.specs.declared.fault.BundleFault.{BundleFault}
 use Rattle.hs_json.specs.declared.fault.BundleFault.TheVariants.{BadJson, BadBundle, BadModel, BadGraph}
 
--- What a bundle holds: a metamodel, a graph over it, a text of rules, and the values of its sessions and its journal, which are read after the rules.
+-- What a bundle holds: a metamodel, a graph over it, a text of rules, and the values of its
+-- sessions and its journal, which are read after the rules.
 pub record Contents : Type 0 where
   pub meta : Metamodel
   pub graph : Graph
@@ -57,17 +58,30 @@ top_of d = do
   rules ← at_or (codes "rules") [] text_value d
   Ok (meta, rules)
 
--- What a value holds that is a bundle: its own form comes first, then the metamodel, then the graph.
+-- What a value holds that is a bundle: its own form comes first, then the metamodel, then the
+-- graph.
 unfoldable pub contents_of : Data → Result Contents BundleFault
 contents_of d = do
   top ← fault_as BadBundle (top_of d)
   meta ← fault_as in_model (meta_at top.0)
   graph ← fault_as in_graph (graph_or_empty meta (get (codes "graph") d))
-  Ok (record { meta = meta; graph = graph; rules = top.1; sessions = get (codes "sessions") d; journal = get (codes "journal") d })
+  Ok (record {
+    meta = meta;
+    graph = graph;
+    rules = top.1;
+    sessions = get (codes "sessions") d;
+    journal = get (codes "journal") d;
+  })
 
 -- What this bundle holds; its metamodel is behind a shared pointer.
 abbrev pub contents : Bundle → Contents
-contents bundle = record { meta = arc_value bundle.graph.meta; graph = bundle.graph.graph; rules = bundle.rules; sessions = option_map view bundle.sessions; journal = option_map view bundle.journal }
+contents bundle = record {
+  meta = arc_value bundle.graph.meta;
+  graph = bundle.graph.graph;
+  rules = bundle.rules;
+  sessions = option_map view bundle.sessions;
+  journal = option_map view bundle.journal;
+}
 
 -- The bytes are the text of a JSON value, in UTF-8.
 pub record IsJson (bytes : List ℕ) (d : Data) : Type 0 where
@@ -80,7 +94,9 @@ IsNoJson bytes = IsUtf8 bytes → read bytes ≡ None
 
 -- What the bytes come to: bad JSON, or what their value holds or its first fault.
 abbrev pub IsBundleAnswer : List ℕ → Result Contents BundleFault → Type 0
-IsBundleAnswer bytes answer = (IsNoJson bytes × (answer ≡ Err BadJson)) ⊎ ((d : Data) × IsJson bytes d × (contents_of d ≡ answer))
+IsBundleAnswer bytes answer =
+    (IsNoJson bytes × (answer ≡ Err BadJson))
+    ⊎ ((d : Data) × IsJson bytes d × (contents_of d ≡ answer))
 
 -- The answer is what the bytes come to; only out of memory may come in its place.
 abbrev pub Answers : List ℕ → Result Bundle (Failure BundleFault) → Type 0

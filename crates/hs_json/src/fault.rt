@@ -13,7 +13,8 @@ use std::alloc::{AllocError, Global};
 pub enum BundleFault {
     /// They aren't a JSON text.
     BadJson,
-    /// The bundle itself isn't an object, has an unknown key or lacks one, or its rules aren't a text.
+    /// The bundle itself isn't an object, has an unknown key or lacks one, or its rules aren't a
+    /// text.
     BadBundle(Path),
     /// What is wrong in its metamodel.
     BadModel(Fault<ModelFaultKind>),

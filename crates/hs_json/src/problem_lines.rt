@@ -37,7 +37,8 @@ fn add_problems(
     problems: &[Problem],
 ) -> Result<(), AllocError>
     ensures { (names : ℕ → List ℕ) → ((n : ℕ) → names n ≡ indexed_name objects.now n)
-        → OnOk result (string_bytes text.new ≡ string_bytes text.old ++ spec.problem_lines meta.now names problems.now) }
+        → OnOk result (string_bytes text.new
+        ≡ string_bytes text.old ++ spec.problem_lines meta.now names problems.now) }
 {
     for problem in problems {
         add_problem(alloc, text, meta, objects, problem)?;
@@ -53,7 +54,8 @@ fn add_problem(
     problem: &Problem,
 ) -> Result<(), AllocError>
     ensures { (names : ℕ → List ℕ) → ((n : ℕ) → names n ≡ indexed_name objects.now n)
-        → OnOk result (string_bytes text.new ≡ string_bytes text.old ++ line_of (spec.problem_data meta.now names problem.now)) }
+        → OnOk result (string_bytes text.new
+        ≡ string_bytes text.old ++ line_of (spec.problem_data meta.now names problem.now)) }
 {
     let object = name_of(objects, problem.object);
     add_named(alloc, text, meta, object, problem.kind)
@@ -67,7 +69,8 @@ fn add_named(
     object: &str,
     kind: ProblemKind,
 ) -> Result<(), AllocError>
-    ensures { OnOk result (string_bytes text.new ≡ string_bytes text.old ++ line_of (object_data (spec.problem_members meta.now object.now kind))) }
+    ensures { OnOk result (string_bytes text.new ≡ string_bytes text.old
+        ++ line_of (object_data (spec.problem_members meta.now object.now kind))) }
 {
     let line = problem_value(alloc, meta, object, kind)?;
     add_line(alloc, text, &line)
@@ -79,7 +82,8 @@ fn problem_value(
     object: &str,
     kind: ProblemKind,
 ) -> Result<Value, AllocError>
-    ensures { IfOk result (λ v. view v ≡ object_data (spec.problem_members meta.now object.now kind)) }
+    ensures { IfOk result
+        (λ v. view v ≡ object_data (spec.problem_members meta.now object.now kind)) }
 {
     match kind {
         ProblemKind::Lower(reference) => bound_value(alloc, meta, object, "lower", reference),
@@ -97,7 +101,8 @@ fn bound_value(
     problem: &str,
     reference: FeatureNo,
 ) -> Result<Value, AllocError>
-    ensures { IfOk result (λ v. view v ≡ object_data (spec.bound_members meta.now object.now problem.now reference)) }
+    ensures { IfOk result
+        (λ v. view v ≡ object_data (spec.bound_members meta.now object.now problem.now reference)) }
 {
     let reference = owned_name(alloc, meta, reference)?;
     let reference = reference.as_str();
@@ -119,7 +124,8 @@ fn owned_name(alloc: Global, meta: &Meta, feature: FeatureNo) -> Result<String, 
 
 /// Adds the line with the number of problems.
 fn add_count(alloc: Global, text: &mut String, count: usize) -> Result<(), AllocError>
-    ensures { OnOk result (string_bytes text.new ≡ string_bytes text.old ++ line_of (spec.count_data count)) }
+    ensures { OnOk result
+        (string_bytes text.new ≡ string_bytes text.old ++ line_of (spec.count_data count)) }
 {
     let line = count_value(alloc, count)?;
     add_line(alloc, text, &line)

@@ -38,8 +38,8 @@ pub struct Bundle {
     pub journal: Option<Value>,
 }
 
-/// Reads the bundle that the bytes are, or reports its first fault: bytes that aren't JSON, then the
-/// bundle's own form, then the metamodel, then the graph. What is read is sound.
+/// Reads the bundle that the bytes are, or reports its first fault: bytes that aren't JSON, then
+/// the bundle's own form, then the metamodel, then the graph. What is read is sound.
 pub fn read_bundle(alloc: Global, bytes: &[u8]) -> Result<Bundle, Failure<BundleFault>>
     ensures answers { spec.Answers bytes.now result }
     ensures sound { IfOk result (λ bundle. IsSound (arc_value bundle.graph.meta) bundle.graph.graph) }
@@ -52,7 +52,8 @@ pub fn read_bundle(alloc: Global, bytes: &[u8]) -> Result<Bundle, Failure<Bundle
 /// The value of the JSON text that the bytes are.
 fn json_of(alloc: Global, bytes: &[u8]) -> Result<Value, Failure<BundleFault>>
     ensures json { IfOk result (λ value. spec.IsJson bytes.now (view value)) }
-    ensures none { IfErr result (λ f. (found : _) → f ≡ failed.Fault found → (found ≡ fault.BadJson) × spec.IsNoJson bytes.now) }
+    ensures none { IfErr result (λ f. (found : _) → f ≡ failed.Fault found
+        → (found ≡ fault.BadJson) × spec.IsNoJson bytes.now) }
 {
     match Value::from_slice(alloc, bytes) {
         Ok(value) => Ok(value),
@@ -62,7 +63,8 @@ fn json_of(alloc: Global, bytes: &[u8]) -> Result<Value, Failure<BundleFault>>
 
 /// The failure that an error of reading JSON is.
 fn failure_of(error: &Error) -> Failure<BundleFault>
-    ensures { (found : _) → result ≡ failed.Fault found → (found ≡ fault.BadJson) × ¬ IsMemory error.now }
+    ensures { (found : _) → result ≡ failed.Fault found
+        → (found ≡ fault.BadJson) × ¬ IsMemory error.now }
 {
     if error.is_memory() {
         Failure::NoMemory
@@ -114,7 +116,8 @@ fn taken_at(value: Value, key: &str) -> Option<Value>
 /// The value of the metamodel and the text of the rules, by the bundle's own form.
 #[tactic(auto, using(hs_expr::proofs::Answers::widened))]
 fn top(alloc: Global, value: &Value) -> Result<(&Value, Text), Failure<BundleFault>>
-    ensures { GivesBy (λ t. (view t.0.now, t.1)) result (fault_as fault.BadBundle (spec.top_of (view value.now))) }
+    ensures { GivesBy (λ t. (view t.0.now, t.1)) result
+        (fault_as fault.BadBundle (spec.top_of (view value.now))) }
 {
     hs_expr::fault_as(
         top_form(alloc, value),
@@ -171,7 +174,8 @@ fn meta_part(alloc: Global, value: &Value) -> Result<Meta, Failure<BundleFault>>
 
 /// The graph, its fault reported from the bundle.
 fn graph_part(alloc: Global, meta: &Meta, value: &Value) -> Result<Graph, Failure<BundleFault>>
-    ensures { Gives result (fault_as spec.in_graph (spec.graph_or_empty meta.now (get (codes "graph") (view value.now)))) }
+    ensures { Gives result (fault_as spec.in_graph
+        (spec.graph_or_empty meta.now (get (codes "graph") (view value.now)))) }
 {
     fault_with(
         graph_at(alloc, meta, value),

@@ -27,7 +27,8 @@ entries (member key d ms) = (key, d) ∷ entries ms
 
 -- The least key of an object that isn't one of these.
 abbrev pub unknown_key : List (List ℕ) → Members → Option (List ℕ)
-unknown_key known ms = find (λ key. not (list_any (same_text key) known)) (map (λ entry. entry.0) (entries ms))
+unknown_key known ms =
+    find (λ key. not (list_any (same_text key) known)) (map (λ entry. entry.0) (entries ms))
 
 abbrev pub no_unknown_key : Option (List ℕ) → Read (Unit {0})
 no_unknown_key None = Ok tt
@@ -58,16 +59,19 @@ text_at key d = at_step (Key key) (text_value d)
 -- What is read of each item in turn; the first one's place is i.
 abbrev pub each_item : {X : Type 0} → (Data → Read X) → ℕ → List Data → Read (List X)
 each_item read i [] = Ok []
-each_item read i (d ∷ ds) = at_step (Place i) (read d) >>= λ x. each_item read (i + 1) ds >>= λ xs. Ok (x ∷ xs)
+each_item read i (d ∷ ds) =
+    at_step (Place i) (read d) >>= λ x. each_item read (i + 1) ds >>= λ xs. Ok (x ∷ xs)
 
 -- The value is a list, and each of its items is read in turn.
 abbrev pub list_of : {X : Type 0} → (Data → Read X) → Data → Read (List X)
 list_of read d = there (as_array d) [] >>= λ ds. each_item read 0 (items ds)
 
 -- What is read of each member in turn, of its key and its value.
-abbrev pub each_member : {X : Type 0} → (List ℕ → Data → Read X) → List (List ℕ × Data) → Read (List X)
+abbrev pub each_member : {X : Type 0} → (List ℕ → Data → Read X) → List (List ℕ × Data)
+    → Read (List X)
 each_member read [] = Ok []
-each_member read (e ∷ es) = at_step (Key e.0) (read e.0 e.1) >>= λ x. each_member read es >>= λ xs. Ok (x ∷ xs)
+each_member read (e ∷ es) =
+    at_step (Key e.0) (read e.0 e.1) >>= λ x. each_member read es >>= λ xs. Ok (x ∷ xs)
 
 -- The value is an object, and each of its members is read in turn, by the order of their keys.
 abbrev pub members_of : {X : Type 0} → (List ℕ → Data → Read X) → Data → Read (List X)

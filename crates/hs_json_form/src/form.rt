@@ -46,7 +46,8 @@ fn at(alloc: Global, key: &str) -> Result<Failure<Path>, AllocError>
 
 #[tactic(auto, using(crate::proofs::Members::unknown_in))]
 fn first_unknown<'a>(members: &'a Map<String, Value>, known: &[&str]) -> Option<&'a str>
-    ensures { option_map (λ s. s.now) result ≡ spec.unknown_key (map (λ s. s.now) known.now) (members_view members.now.entries) }
+    ensures { option_map (λ s. s.now) result
+        ≡ spec.unknown_key (map (λ s. s.now) known.now) (members_view members.now.entries) }
 {
     match first_unknown_key(members, known) {
         Some(key) => Some(key.as_str()),
@@ -55,7 +56,9 @@ fn first_unknown<'a>(members: &'a Map<String, Value>, known: &[&str]) -> Option<
 }
 
 fn first_unknown_key<'a>(members: &'a Map<String, Value>, known: &[&str]) -> Option<&'a String>
-    ensures { option_copied result ≡ find (λ key. not (list_any (same_text (string_bytes key)) (map (λ s. s.now) known.now))) (map_keys members.now) }
+    ensures { option_copied result
+        ≡ find (λ key. not (list_any (same_text (string_bytes key)) (map (λ s. s.now) known.now)))
+        (map_keys members.now) }
 {
     members.keys().find(|key| !is_known(known, key.as_str()))
 }
@@ -89,7 +92,8 @@ pub fn at_key<T: Drop>(
     key: &str,
     read: Result<T, Failure<Path>>,
 ) -> Result<T, Failure<Path>>
-    ensures { (meant : _) → Gives read meant → Gives result (spec.at_step (step.Key key.now) meant) }
+    ensures { (meant : _) → Gives read meant
+        → Gives result (spec.at_step (step.Key key.now) meant) }
 {
     fault_with(
         read,

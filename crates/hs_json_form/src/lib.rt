@@ -1,9 +1,10 @@
 //! The forms of JSON values, each with the value that it gives or the first fault and its path.
 //!
-//! A reader is made of steps: an object with known keys ([`only_known`]), keys that have to be there
-//! ([`member_at`]), texts, integers and truth values, lists ([`list_of`]) and members ([`members_of`]).
-//! The fault of a form is the [`Path`] of the value that is at fault; what is read at a key or at an
-//! index has it reported from there ([`at_key`]). The definitions of the same names say what is read.
+//! A reader is made of steps: an object with known keys ([`only_known`]), keys that have to be
+//! there ([`member_at`]), texts, integers and truth values, lists ([`list_of`]) and members
+//! ([`members_of`]). The fault of a form is the [`Path`] of the value that is at fault; what is
+//! read at a key or at an index has it reported from there ([`at_key`]). The definitions of the
+//! same names say what is read.
 #![tactic(auto)]
 
 mod failure;

@@ -65,7 +65,8 @@ impl Path {
 /// The steps from the last one on, each after a slash.
 #[tactic(auto, using(crate::proofs::PathText::none_left))]
 fn steps_text(alloc: Global, reversed: &[Step]) -> Result<String, AllocError>
-    ensures { IfOk result (λ text. string_bytes text ≡ flat_map spec.step_text (reverse reversed.now)) }
+    ensures { IfOk result
+        (λ text. string_bytes text ≡ flat_map spec.step_text (reverse reversed.now)) }
 {
     let mut text = String::new(alloc);
     for i in 0..reversed.len() {

@@ -22,7 +22,8 @@ pub fn list_of<T: Drop, F: Fn(&Value) -> Result<T, Failure<Path>>>(
     read: &F,
 ) -> Result<List<T>, Failure<Path>>
     requires { F.IsAlwaysCallable read.now }
-    ensures { (reads : Data → Read T) → ((v : _) (r : _) → F.post read.now v r → Gives r (reads (view v.now)))
+    ensures { (reads : Data → Read T)
+        → ((v : _) (r : _) → F.post read.now v r → Gives r (reads (view v.now)))
         → Gives result (spec.list_of reads (view value.now)) }
 {
     match value.as_array() {
@@ -38,7 +39,8 @@ fn read_each<T: Drop, F: Fn(&Value) -> Result<T, Failure<Path>>>(
     read: &F,
 ) -> Result<List<T>, Failure<Path>>
     requires { F.IsAlwaysCallable read.now }
-    ensures { (reads : Data → Read T) → ((v : _) (r : _) → F.post read.now v r → Gives r (reads (view v.now)))
+    ensures { (reads : Data → Read T)
+        → ((v : _) (r : _) → F.post read.now v r → Gives r (reads (view v.now)))
         → Gives result (spec.each_item reads 0 (map view values.now)) }
 {
     let mut items = List::new(alloc);
@@ -71,7 +73,8 @@ pub fn list_at<T: Drop, F: Fn(&Value) -> Result<T, Failure<Path>>>(
     read: &F,
 ) -> Result<List<T>, Failure<Path>>
     requires { F.IsAlwaysCallable read.now }
-    ensures { (reads : Data → Read T) → ((v : _) (r : _) → F.post read.now v r → Gives r (reads (view v.now)))
+    ensures { (reads : Data → Read T)
+        → ((v : _) (r : _) → F.post read.now v r → Gives r (reads (view v.now)))
         → Gives result (spec.at_or key.now [] (spec.list_of reads) (view value.now)) }
 {
     match value.get(key) {
@@ -87,7 +90,8 @@ pub fn members_of<T: Drop, F: Fn(&str, &Value) -> Result<T, Failure<Path>>>(
     read: &F,
 ) -> Result<List<T>, Failure<Path>>
     requires { F.IsAlwaysCallable read.now }
-    ensures { (reads : List ℕ → Data → Read T) → ((k : _) (v : _) (r : _) → F.post read.now k v r → Gives r (reads k.now (view v.now)))
+    ensures { (reads : List ℕ → Data → Read T)
+        → ((k : _) (v : _) (r : _) → F.post read.now k v r → Gives r (reads k.now (view v.now)))
         → Gives result (spec.members_of reads (view value.now)) }
 {
     match value.as_object() {
@@ -102,7 +106,8 @@ fn each_member<T: Drop, F: Fn(&str, &Value) -> Result<T, Failure<Path>>>(
     read: &F,
 ) -> Result<List<T>, Failure<Path>>
     requires { F.IsAlwaysCallable read.now }
-    ensures { (reads : List ℕ → Data → Read T) → ((k : _) (v : _) (r : _) → F.post read.now k v r → Gives r (reads k.now (view v.now)))
+    ensures { (reads : List ℕ → Data → Read T)
+        → ((k : _) (v : _) (r : _) → F.post read.now k v r → Gives r (reads k.now (view v.now)))
         → Gives result (spec.each_member reads (spec.entries (members_view members.now.entries))) }
 {
     let mut items = List::new(alloc);
@@ -123,7 +128,8 @@ pub fn members_at<T: Drop, F: Fn(&str, &Value) -> Result<T, Failure<Path>>>(
     read: &F,
 ) -> Result<List<T>, Failure<Path>>
     requires { F.IsAlwaysCallable read.now }
-    ensures { (reads : List ℕ → Data → Read T) → ((k : _) (v : _) (r : _) → F.post read.now k v r → Gives r (reads k.now (view v.now)))
+    ensures { (reads : List ℕ → Data → Read T)
+        → ((k : _) (v : _) (r : _) → F.post read.now k v r → Gives r (reads k.now (view v.now)))
         → Gives result (spec.at_or key.now [] (spec.members_of reads) (view value.now)) }
 {
     match value.get(key) {

@@ -6,4 +6,5 @@ use Rattle.serde_json.specs.Data.{Data, Members, no_members, member}
 -- The members of a map's entries, in their order.
 abbrev pub entry_members : {X : Type 0} → (X → Data) → List (Bor (List ℕ) × X) → Members
 entry_members data_of [] = no_members
-entry_members data_of (entry ∷ entries) = member entry.0.now (data_of entry.1) (entry_members data_of entries)
+entry_members data_of (entry ∷ entries) =
+    member entry.0.now (data_of entry.1) (entry_members data_of entries)

@@ -22,10 +22,14 @@ use Rattle.hs_json_model.specs.Meta.{form_fault}
 
 -- The name of an object's attribute, and of its reference, by their places in what is written.
 abbrev pub attr_name : List RawObject → ℕ → ℕ → List ℕ
-attr_name objects i n = unwrap_or (option_and_then (λ object. option_map (λ attr. attr.name) (slice_get object.attrs n)) (slice_get objects i)) []
+attr_name objects i n =
+    unwrap_or (option_and_then (λ object. option_map (λ attr. attr.name) (slice_get object.attrs n))
+    (slice_get objects i)) []
 
 abbrev pub ref_name : List RawObject → ℕ → ℕ → List ℕ
-ref_name objects i n = unwrap_or (option_and_then (λ object. option_map (λ ref. ref.name) (slice_get object.refs n)) (slice_get objects i)) []
+ref_name objects i n =
+    unwrap_or (option_and_then (λ object. option_map (λ ref. ref.name) (slice_get object.refs n))
+    (slice_get objects i)) []
 
 abbrev pub in_ref : List RawObject → ℕ → ℕ → List Step → List Step
 in_ref objects i n inner = Place i ∷ Key (codes "refs") ∷ Key (ref_name objects i n) ∷ inner
@@ -36,13 +40,17 @@ graph_path objects place.Graph = []
 graph_path objects (place.Object i) = Place i ∷ []
 graph_path objects (place.ObjectName i) = Place i ∷ Key (codes "name") ∷ []
 graph_path objects (place.ObjectClass i) = Place i ∷ Key (codes "class") ∷ []
-graph_path objects (place.Attr i n) = Place i ∷ Key (codes "attrs") ∷ Key (attr_name objects i n) ∷ []
+graph_path objects (place.Attr i n) =
+    Place i ∷ Key (codes "attrs") ∷ Key (attr_name objects i n) ∷ []
 graph_path objects (place.Ref i n) = in_ref objects i n []
 graph_path objects (place.Target i n t) = in_ref objects i n (Place t ∷ [])
 
 -- A fault at its path.
 abbrev pub graph_fault_at : List RawObject → GraphFault → Fault GraphFaultKind
-graph_fault_at objects fault = record { path = graph_path objects fault.place; wrong = Meaning fault.kind }
+graph_fault_at objects fault = record {
+  path = graph_path objects fault.place;
+  wrong = Meaning fault.kind;
+}
 
 -- The graph that a value is: of its form, and then of its meaning.
 unfoldable pub graph_at : Metamodel → Data → Result Graph (Fault GraphFaultKind)

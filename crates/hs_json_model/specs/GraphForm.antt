@@ -10,7 +10,8 @@ use Rattle.hs_graph.specs.declared.raw.RawRef.{RawRef}
 use Rattle.hs_graph.specs.declared.raw.RawValue.{RawValue}
 use Rattle.hs_graph.specs.declared.raw.RawValue.TheVariants.{Given, NoValue}
 
--- What is written as a value: a truth value, an integer of 64 bits or a text; a list, an object and null aren't values.
+-- What is written as a value: a truth value, an integer of 64 bits or a text; a list, an object and
+-- null aren't values.
 abbrev pub raw_value : Data → Read RawValue
 raw_value null = Ok NoValue
 raw_value (boolean b) = Ok (Given (value.Bool b))

@@ -33,12 +33,17 @@ model_path place.Classes = Key (codes "classes") ∷ []
 model_path (place.Class class) = in_class class []
 model_path (place.ClassName class) = in_class class (Key (codes "name") ∷ [])
 model_path (place.Super class number) = in_part class (codes "supers") number []
-model_path (place.AttributeName class number) = in_part class (codes "attributes") number (Key (codes "name") ∷ [])
-model_path (place.AttributeType class number) = in_part class (codes "attributes") number (Key (codes "type") ∷ [])
-model_path (place.AttributeDefault class number) = in_part class (codes "attributes") number (Key (codes "default") ∷ [])
+model_path (place.AttributeName class number) =
+    in_part class (codes "attributes") number (Key (codes "name") ∷ [])
+model_path (place.AttributeType class number) =
+    in_part class (codes "attributes") number (Key (codes "type") ∷ [])
+model_path (place.AttributeDefault class number) =
+    in_part class (codes "attributes") number (Key (codes "default") ∷ [])
 model_path (place.Reference class number) = in_part class (codes "references") number []
-model_path (place.ReferenceName class number) = in_part class (codes "references") number (Key (codes "name") ∷ [])
-model_path (place.ReferenceTarget class number) = in_part class (codes "references") number (Key (codes "target") ∷ [])
+model_path (place.ReferenceName class number) =
+    in_part class (codes "references") number (Key (codes "name") ∷ [])
+model_path (place.ReferenceTarget class number) =
+    in_part class (codes "references") number (Key (codes "target") ∷ [])
 
 -- A fault at its path.
 abbrev pub model_fault_at : ModelFault → Fault ModelFaultKind

@@ -13,7 +13,8 @@ use Rattle.hs_meta.specs.declared.raw.RawDefault.TheVariants.{LeftOut, Given, No
 use Rattle.hs_meta.specs.declared.raw.RawMeta.{RawMeta}
 use Rattle.hs_meta.specs.declared.raw.RawReference.{RawReference}
 
--- What is given as a default: a truth value, an integer of 64 bits or a text; a list, an object and null aren't values.
+-- What is given as a default: a truth value, an integer of 64 bits or a text; a list, an object and
+-- null aren't values.
 abbrev pub raw_default : Data → Read RawDefault
 raw_default null = Ok NoValue
 raw_default (boolean b) = Ok (Given (value.Bool b))
@@ -33,10 +34,12 @@ raw_attribute d = do
   default ← at_or (codes "default") LeftOut raw_default d
   Ok (record { name = named; data_type = typed; default = default })
 
--- A reference has a name, a target, and perhaps containment and bounds: it contains nothing, from 0 to 1, where they are left out.
+-- A reference has a name, a target, and perhaps containment and bounds: it contains nothing, from 0
+-- to 1, where they are left out.
 unfoldable pub raw_reference : Data → Read RawReference
 raw_reference d = do
-  known ← only_known (codes "name" ∷ codes "target" ∷ codes "containment" ∷ codes "lower" ∷ codes "upper" ∷ []) d
+  known ← only_known (codes "name" ∷ codes "target" ∷ codes "containment" ∷ codes "lower"
+      ∷ codes "upper" ∷ []) d
   name ← member_at (codes "name") d
   target ← member_at (codes "target") d
   named ← text_at (codes "name") name
@@ -44,7 +47,13 @@ raw_reference d = do
   containment ← at_or (codes "containment") false truth_value d
   lower ← at_or (codes "lower") (pos 0) integer_value d
   upper ← at_or (codes "upper") (pos 1) integer_value d
-  Ok (record { name = named; target = leads; containment = containment; lower = lower; upper = upper })
+  Ok (record {
+    name = named;
+    target = leads;
+    containment = containment;
+    lower = lower;
+    upper = upper;
+  })
 
 -- What a class owns: perhaps attributes, and perhaps references.
 unfoldable pub raw_features : Data → Read (List RawAttribute × List RawReference)
@@ -53,16 +62,24 @@ raw_features d = do
   references ← at_or (codes "references") [] (list_of raw_reference) d
   Ok (attributes, references)
 
--- A class has a name, and perhaps supertypes, attributes and references; it is concrete where nothing else is said.
+-- A class has a name, and perhaps supertypes, attributes and references; it is concrete where
+-- nothing else is said.
 unfoldable pub raw_class : Data → Read RawClass
 raw_class d = do
-  known ← only_known (codes "name" ∷ codes "abstract" ∷ codes "supers" ∷ codes "attributes" ∷ codes "references" ∷ []) d
+  known ← only_known (codes "name" ∷ codes "abstract" ∷ codes "supers" ∷ codes "attributes"
+      ∷ codes "references" ∷ []) d
   name ← member_at (codes "name") d
   named ← text_at (codes "name") name
   is_abstract ← at_or (codes "abstract") false truth_value d
   supers ← at_or (codes "supers") [] (list_of text_value) d
   features ← raw_features d
-  Ok (record { name = named; is_abstract = is_abstract; supers = supers; attributes = features.0; references = features.1 })
+  Ok (record {
+    name = named;
+    is_abstract = is_abstract;
+    supers = supers;
+    attributes = features.0;
+    references = features.1;
+  })
 
 -- The version of a metamodel's meaning is 1.
 abbrev pub format_of : Data → Read ℕ

@@ -1,4 +1,5 @@
--- What a written graph is read as: the same objects, numbered by place, and the same edges, numbered anew.
+-- What a written graph is read as: the same objects, numbered by place, and the same edges,
+-- numbered anew.
 use Rattle.std.specs.Prelude.{ℕ, ◌+◌, ◌≤◌, ◌≡◌, List, [], ◌∷◌, ◌++◌, length, map, max, eqb, true}
 use Rattle.std.specs.List.{All, filter, flat_map, position}
 use Rattle.std.specs.Option.{unwrap_or}
@@ -14,7 +15,8 @@ use Rattle.hs_graph.specs.Meaning as meaning
 use Rattle.hs_graph.specs.Names.{is_object_name}
 use Rattle.hs_graph.specs.Problems.{edges_leaving}
 
--- At most 200,000 objects and 400,000 edges; names that an object can be given, and texts of at most 65,536 bytes.
+-- At most 200,000 objects and 400,000 edges; names that an object can be given, and texts of at
+-- most 65,536 bytes.
 pub record IsWritable (g : Graph) : Type 0 where
   pub objects : length g.objects ≤ MAX_OBJECTS
   pub edges : length g.edges ≤ MAX_EDGES
@@ -31,21 +33,31 @@ edges_by edges reference = filter (λ e. eqb e.reference reference) edges
 
 -- The edge, between places.
 abbrev pub link_between : Graph → ℕ → ℕ → Edge → Link
-link_between g source reference e = record { source = source; reference = reference; target = place_in g e.target }
+link_between g source reference e = record {
+  source = source;
+  reference = reference;
+  target = place_in g e.target;
+}
 
--- The edges that begin at an object of this place: reference by reference in the order of its class, and those of one reference in the order that they stand in.
+-- The edges that begin at an object of this place: reference by reference in the order of its
+-- class, and those of one reference in the order that they stand in.
 abbrev pub links_at : Metamodel → Graph → ℕ → Object → List Link
-links_at m g place object = flat_map (λ f. map (link_between g place f) (edges_by (edges_leaving g object.number) f)) (features_of m object.class)
+links_at m g place object =
+    flat_map (λ f. map (link_between g place f) (edges_by (edges_leaving g object.number) f))
+    (features_of m object.class)
 
 -- The edges that begin at these objects, object by object; the first one has this place.
 abbrev pub links_by_place : Metamodel → Graph → ℕ → List Object → List Link
 links_by_place m g place [] = []
-links_by_place m g place (object ∷ objects) = links_at m g place object ++ links_by_place m g (place + 1) objects
+links_by_place m g place (object ∷ objects) =
+    links_at m g place object ++ links_by_place m g (place + 1) objects
 
 -- The objects, numbered from n on.
 abbrev pub objects_by_place : ℕ → List Object → List Object
 objects_by_place n [] = []
-objects_by_place n (object ∷ objects) = record { number = n; name = object.name; class = object.class; slots = object.slots } ∷ objects_by_place (n + 1) objects
+objects_by_place n (object ∷ objects) =
+    record { number = n; name = object.name; class = object.class; slots = object.slots }
+    ∷ objects_by_place (n + 1) objects
 
 -- The same graph, numbered by places.
 unfoldable pub graph_by_place : Metamodel → Graph → Graph

@@ -7,7 +7,8 @@ use Rattle.hs_types.specs.Limits.{IsSmallMeta}
 use Rattle.hs_types.specs.Metamodel.{IsMeta}
 use Rattle.hs_types.specs.TypedGraph.{IsOpening}
 
--- A metamodel that keeps the limits, and over it a graph from which a journal begins, of at most 200,000 objects and 400,000 edges; no object's name counts more than 3,000,000,000.
+-- A metamodel that keeps the limits, and over it a graph from which a journal begins, of at most
+-- 200,000 objects and 400,000 edges; no object's name counts more than 3,000,000,000.
 pub record IsSound (m : Metamodel) (g : Graph) : Type 0 where
   pub is_meta : IsMeta m
   pub is_small : IsSmallMeta m

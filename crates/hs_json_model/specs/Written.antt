@@ -1,4 +1,5 @@
--- A graph as it is written: a JSON value with its objects, and the vocabulary on members that such values are said in.
+-- A graph as it is written: a JSON value with its objects, and the vocabulary on members that such
+-- values are said in.
 use Rattle.std.specs.Prelude.{ℕ, List, [], ◌∷◌, ◌++◌, map, codes, eqb, slice_get}
 use Rattle.std.specs.List.{filter, flat_map}
 use Rattle.std.specs.Option.{option_map, unwrap_or}
@@ -45,7 +46,8 @@ abbrev pub feature_name : Metamodel → ℕ → List ℕ
 feature_name m f = unwrap_or (option_map (λ feature. feature.name) (slice_get m.features f)) []
 
 abbrev pub attrs_data : Metamodel → List Slot → Data
-attrs_data m slots = object_data (map (λ slot. (feature_name m slot.attribute, value_data slot.value)) slots)
+attrs_data m slots =
+    object_data (map (λ slot. (feature_name m slot.attribute, value_data slot.value)) slots)
 
 -- The name of the object of this number.
 abbrev pub name_in : Graph → ℕ → List ℕ
@@ -53,7 +55,8 @@ name_in g n = unwrap_or (name_at g n) []
 
 -- The names of the targets at a reference, among an object's edges.
 abbrev pub targets_of : (ℕ → List ℕ) → List Edge → ℕ → List (List ℕ)
-targets_of names edges reference = map (λ e. names e.target) (filter (λ e. eqb e.reference reference) edges)
+targets_of names edges reference =
+    map (λ e. names e.target) (filter (λ e. eqb e.reference reference) edges)
 
 -- A reference that has no target is left out.
 abbrev pub reference_member : List ℕ → List (List ℕ) → List Member
@@ -61,11 +64,13 @@ reference_member name [] = []
 reference_member name (target ∷ targets) = (name, list_data string (target ∷ targets)) ∷ []
 
 abbrev pub refs_members : Metamodel → (ℕ → List ℕ) → List Edge → List ℕ → List Member
-refs_members m names edges features = flat_map (λ f. reference_member (feature_name m f) (targets_of names edges f)) features
+refs_members m names edges features =
+    flat_map (λ f. reference_member (feature_name m f) (targets_of names edges f)) features
 
 abbrev pub object_members : Metamodel → (ℕ → List ℕ) → List Edge → Object → List Member
 object_members m names edges o =
-    (codes "attrs", attrs_data m o.slots) ∷ (codes "class", string (class_name m o.class)) ∷ (codes "name", string o.name)
+    (codes "attrs", attrs_data m o.slots) ∷ (codes "class", string (class_name m o.class))
+    ∷ (codes "name", string o.name)
     ∷ (codes "refs", object_data (refs_members m names edges (features_of m o.class))) ∷ []
 
 abbrev pub object_line : Metamodel → Graph → Object → Data

@@ -23,8 +23,8 @@ use std::alloc::{AllocError, Global};
 /// Why a graph isn't read.
 pub type GraphFailure = Failure<Fault<GraphFaultKind>>;
 
-/// The typed graph that the value is over the metamodel; else its first fault: those of its form come
-/// first, object by object, and then those of its meaning.
+/// The typed graph that the value is over the metamodel; else its first fault: those of its form
+/// come first, object by object, and then those of its meaning.
 #[tactic(auto, unfolding(crate::specs::Graph::graph_at))]
 pub fn read_graph(alloc: Global, meta: &Meta, value: &Value) -> Result<Graph, GraphFailure>
     ensures { Gives result (spec.graph_at meta.now (view value.now)) }
@@ -35,7 +35,8 @@ pub fn read_graph(alloc: Global, meta: &Meta, value: &Value) -> Result<Graph, Gr
 
 /// The graph of what is written.
 fn graph_of(alloc: Global, meta: &Meta, objects: &[RawObject]) -> Result<Graph, GraphFailure>
-    ensures { Gives result (fault_as (spec.graph_fault_at objects.now) (unless (graph_faults meta.now objects.now) (graph_of meta.now objects.now))) }
+    ensures { Gives result (fault_as (spec.graph_fault_at objects.now)
+        (unless (graph_faults meta.now objects.now) (graph_of meta.now objects.now))) }
 {
     fault_with(
         build(alloc, meta, objects),

@@ -39,7 +39,8 @@ pub fn with_graph(
     meta: &Meta,
     graph: &Graph,
 ) -> Result<String, AllocError>
-    ensures { IfOk result (λ written. string_bytes written ≡ string_bytes text ++ compact_text (graph_data meta.now graph.now)) }
+    ensures { IfOk result (λ written. string_bytes written
+        ≡ string_bytes text ++ compact_text (graph_data meta.now graph.now)) }
 {
     let mut out = Writer::new(text.into_bytes());
     add_graph(alloc, &mut out, meta, graph)?;
@@ -56,7 +57,8 @@ fn text_of(out: Writer) -> String
 
 /// Adds a graph.
 fn add_graph(alloc: Global, out: &mut Writer, meta: &Meta, graph: &Graph) -> Result<(), AllocError>
-    ensures ok { OnOk result (out.new.tokens ≡ out.old.tokens ++ json_tokens (outline (graph_data meta.now graph.now))) }
+    ensures ok { OnOk result
+        (out.new.tokens ≡ out.old.tokens ++ json_tokens (outline (graph_data meta.now graph.now))) }
     ensures before { out.new.before ≡ out.old.before }
 {
     out.begin_object()?;
@@ -72,7 +74,8 @@ fn add_objects(
     meta: &Meta,
     graph: &Graph,
 ) -> Result<(), AllocError>
-    ensures ok { OnOk result (out.new.tokens ≡ out.old.tokens ++ json_tokens (outline (list_data (object_line meta.now graph.now) graph.now.objects))) }
+    ensures ok { OnOk result (out.new.tokens ≡ out.old.tokens
+        ++ json_tokens (outline (list_data (object_line meta.now graph.now) graph.now.objects))) }
     ensures before { out.new.before ≡ out.old.before }
 {
     let objects = objects_of(alloc, graph)?;
@@ -93,9 +96,11 @@ fn add_object(
     outgoing: &EdgeIndex,
     object: &Object,
 ) -> Result<(), AllocError>
-    ensures ok { (g : Graph) → ((n : ℕ) → option_map (λ o. o.now) (indexed_object objects.now n) ≡ object_at g n)
+    ensures ok { (g : Graph)
+        → ((n : ℕ) → option_map (λ o. o.now) (indexed_object objects.now n) ≡ object_at g n)
         → ((n : ℕ) → indexed_edges outgoing.now n ≡ edges_leaving g n)
-        → OnOk result (out.new.tokens ≡ out.old.tokens ++ json_tokens (outline (object_line meta.now g object.now))) }
+        → OnOk result (out.new.tokens
+        ≡ out.old.tokens ++ json_tokens (outline (object_line meta.now g object.now))) }
     ensures before { out.new.before ≡ out.old.before }
 {
     let edges = edges_of(outgoing, object.number as usize);
@@ -111,7 +116,8 @@ fn add_parts(
     edges: &[Edge],
     object: &Object,
 ) -> Result<(), AllocError>
-    ensures ok { OnOk result (out.new.tokens ≡ out.old.tokens ++ json_tokens (outline (object_data (object_members meta.now (indexed_name objects.now) edges.now object.now)))) }
+    ensures ok { OnOk result (out.new.tokens ≡ out.old.tokens ++ json_tokens (outline
+        (object_data (object_members meta.now (indexed_name objects.now) edges.now object.now)))) }
     ensures before { out.new.before ≡ out.old.before }
 {
     out.begin_object()?;
@@ -127,7 +133,8 @@ fn add_parts(
 
 /// Adds a member that is a text.
 fn add_text(out: &mut Writer, name: &str, text: &str) -> Result<(), AllocError>
-    ensures ok { OnOk result (out.new.tokens ≡ out.old.tokens ++ key name.now ∷ string text.now ∷ []) }
+    ensures ok { OnOk result
+        (out.new.tokens ≡ out.old.tokens ++ key name.now ∷ string text.now ∷ []) }
     ensures before { out.new.before ≡ out.old.before }
 {
     out.key(name)?;
@@ -141,7 +148,8 @@ fn add_attrs(
     meta: &Meta,
     slots: &List<Slot>,
 ) -> Result<(), AllocError>
-    ensures ok { OnOk result (out.new.tokens ≡ out.old.tokens ++ json_tokens (outline (attrs_data meta.now slots.now))) }
+    ensures ok { OnOk result
+        (out.new.tokens ≡ out.old.tokens ++ json_tokens (outline (attrs_data meta.now slots.now))) }
     ensures before { out.new.before ≡ out.old.before }
 {
     let slots = slots_by_name(alloc, meta, slots)?;
@@ -149,7 +157,8 @@ fn add_attrs(
 }
 
 fn add_slots(out: &mut Writer, slots: &BTreeMap<&str, &Slot>) -> Result<(), AllocError>
-    ensures ok { OnOk result (out.new.tokens ≡ out.old.tokens ++ json_tokens (outline (object (entry_members (λ slot. value_data slot.now.value) slots.now.entries)))) }
+    ensures ok { OnOk result (out.new.tokens ≡ out.old.tokens ++ json_tokens
+        (outline (object (entry_members (λ slot. value_data slot.now.value) slots.now.entries)))) }
     ensures before { out.new.before ≡ out.old.before }
 {
     out.begin_object()?;
@@ -167,7 +176,8 @@ fn slots_by_name<'a>(
     slots: &'a List<Slot>,
 ) -> Result<BTreeMap<&'a str, &'a Slot>, AllocError>
     ensures { IfOk result (λ found. entry_members (λ slot. value_data slot.now.value) found.entries
-        ≡ with_members no_members (map (λ slot. (feature_name meta.now slot.attribute, value_data slot.value)) slots.now)) }
+        ≡ with_members no_members (map
+        (λ slot. (feature_name meta.now slot.attribute, value_data slot.value)) slots.now)) }
 {
     let mut found = BTreeMap::new(alloc);
     for slot in slots.as_slice() {
@@ -178,7 +188,8 @@ fn slots_by_name<'a>(
 
 /// Adds a value of an attribute.
 fn add_datum(out: &mut Writer, datum: &Datum) -> Result<(), AllocError>
-    ensures ok { OnOk result (out.new.tokens ≡ out.old.tokens ++ json_tokens (outline (value_data datum.now))) }
+    ensures ok { OnOk result
+        (out.new.tokens ≡ out.old.tokens ++ json_tokens (outline (value_data datum.now))) }
     ensures before { out.new.before ≡ out.old.before }
 {
     match datum {
@@ -197,7 +208,9 @@ fn add_refs(
     class: ClassNo,
     edges: &[Edge],
 ) -> Result<(), AllocError>
-    ensures ok { OnOk result (out.new.tokens ≡ out.old.tokens ++ json_tokens (outline (object_data (refs_members meta.now (indexed_name objects.now) edges.now (features_of meta.now class))))) }
+    ensures ok { OnOk result (out.new.tokens ≡ out.old.tokens ++ json_tokens (outline
+        (object_data (refs_members meta.now (indexed_name objects.now) edges.now
+        (features_of meta.now class))))) }
     ensures before { out.new.before ≡ out.old.before }
 {
     let refs = refs_by_name(alloc, meta, class, edges)?;
@@ -211,7 +224,9 @@ fn add_references(
     edges: &[Edge],
 ) -> Result<(), AllocError>
     ensures ok { OnOk result (out.new.tokens ≡ out.old.tokens
-        ++ json_tokens (outline (object (entry_members (λ f. list_data text_data (targets_of (indexed_name objects.now) edges.now f)) refs.now.entries)))) }
+        ++ json_tokens (outline
+        (object (entry_members (λ f. list_data text_data
+        (targets_of (indexed_name objects.now) edges.now f)) refs.now.entries)))) }
     ensures before { out.new.before ≡ out.old.before }
 {
     out.begin_object()?;
@@ -229,8 +244,10 @@ fn refs_by_name<'a>(
     class: ClassNo,
     edges: &[Edge],
 ) -> Result<BTreeMap<&'a str, FeatureNo>, AllocError>
-    ensures { (names : ℕ → List ℕ) → IfOk result (λ found. entry_members (λ f. list_data text_data (targets_of names edges.now f)) found.entries
-        ≡ with_members no_members (refs_members meta.now names edges.now (features_of meta.now class))) }
+    ensures { (names : ℕ → List ℕ) → IfOk result (λ found.
+        entry_members (λ f. list_data text_data (targets_of names edges.now f)) found.entries
+        ≡ with_members no_members
+        (refs_members meta.now names edges.now (features_of meta.now class))) }
 {
     let mut found = BTreeMap::new(alloc);
     if let Some(class) = meta.class(class) {
@@ -248,8 +265,10 @@ fn add_reference<'a>(
     feature: FeatureNo,
     edges: &[Edge],
 ) -> Result<(), AllocError>
-    ensures { (names : ℕ → List ℕ) → OnOk result (entry_members (λ f. list_data text_data (targets_of names edges.now f)) found.new.entries
-        ≡ with_members (entry_members (λ f. list_data text_data (targets_of names edges.now f)) found.old.entries)
+    ensures { (names : ℕ → List ℕ) → OnOk result
+        (entry_members (λ f. list_data text_data (targets_of names edges.now f)) found.new.entries
+        ≡ with_members (entry_members (λ f. list_data text_data (targets_of names edges.now f))
+        found.old.entries)
         (reference_member (feature_name meta.now feature) (targets_of names edges.now feature))) }
 {
     if has_edge(edges, feature) {
@@ -271,7 +290,8 @@ fn add_targets(
     reference: FeatureNo,
     edges: &[Edge],
 ) -> Result<(), AllocError>
-    ensures ok { OnOk result (out.new.tokens ≡ out.old.tokens ++ json_tokens (outline (list_data text_data (targets_of (indexed_name objects.now) edges.now reference)))) }
+    ensures ok { OnOk result (out.new.tokens ≡ out.old.tokens ++ json_tokens (outline
+        (list_data text_data (targets_of (indexed_name objects.now) edges.now reference)))) }
     ensures before { out.new.before ≡ out.old.before }
 {
     out.begin_array()?;

@@ -17,13 +17,14 @@ ghost use Rattle.hs_json_model.specs.Written.{objects_data};
 use hs_graph::laws::{graphs_are_opening, graphs_are_small, hash_names_are_numbers};
 use hs_meta::laws::metamodels_are_denoted;
 
-/// The metamodel that a value is keeps the limits, and a graph over such a metamodel that a value is
-/// begins a journal, and keeps the limits too.
+/// The metamodel that a value is keeps the limits, and a graph over such a metamodel that a value
+/// is begins a journal, and keeps the limits too.
 pub fn models_are_sound()
     ensures whole { (d : Data) (m : Metamodel) → meta_at d ≡ Ok m → IsMeta m }
     ensures small { (d : Data) (m : Metamodel) → meta_at d ≡ Ok m → IsSmallMeta m }
     ensures empty { (m : Metamodel) → IsMeta m → IsSmallMeta m → IsSound m (graph_of m []) }
-    ensures graph { (m : Metamodel) (d : Data) (g : Graph) → IsMeta m → IsSmallMeta m → graph_at m d ≡ Ok g → IsSound m g }
+    ensures graph { (m : Metamodel) (d : Data) (g : Graph) → IsMeta m → IsSmallMeta m
+        → graph_at m d ≡ Ok g → IsSound m g }
 {
     metamodels_are_denoted();
     graphs_are_opening();
@@ -34,8 +35,10 @@ pub fn models_are_sound()
 /// the same edges, numbered by their places. A graph from which a journal begins is numbered so
 /// already.
 pub fn graphs_are_read_back()
-    ensures numbered { (m : Metamodel) (g : Graph) → IsMeta m → IsTyped m g → IsWritable g → graph_at m (objects_data m g) ≡ Ok (graph_by_place m g) }
-    ensures itself { (m : Metamodel) (g : Graph) → IsMeta m → IsOpening m g → graph_by_place m g ≡ g }
+    ensures numbered { (m : Metamodel) (g : Graph) → IsMeta m → IsTyped m g → IsWritable g
+        → graph_at m (objects_data m g) ≡ Ok (graph_by_place m g) }
+    ensures itself { (m : Metamodel) (g : Graph) → IsMeta m → IsOpening m g
+        → graph_by_place m g ≡ g }
 {
     hash_names_are_numbers();
 }

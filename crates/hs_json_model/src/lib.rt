@@ -2,8 +2,8 @@
 //!
 //! [`read_meta`] gives the metamodel that a value is, and [`read_graph`] the typed graph over a
 //! metamodel; or the first fault with its path. Faults of form ([`raw_meta`], [`raw_objects`]) come
-//! before those of meaning. [`write_graph`] gives the text of a graph, and [`with_graph`] puts it after
-//! another text.
+//! before those of meaning. [`write_graph`] gives the text of a graph, and [`with_graph`] puts it
+//! after another text.
 #![tactic(auto)]
 
 mod fault;

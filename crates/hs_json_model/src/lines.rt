@@ -11,7 +11,8 @@ use std::alloc::{AllocError, Global};
 /// Adds a value's compact text and the end of its line.
 pub fn add_line(alloc: Global, text: &mut String, value: &Value) -> Result<(), AllocError>
     requires { has_float (view value.now) ≡ false }
-    ensures { OnOk result (string_bytes text.new ≡ string_bytes text.old ++ line_of (view value.now)) }
+    ensures { OnOk result
+        (string_bytes text.new ≡ string_bytes text.old ++ line_of (view value.now)) }
 {
     let line = value.to_string(alloc)?;
     text.push_str(line.as_str())?;

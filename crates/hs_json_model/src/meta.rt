@@ -25,8 +25,8 @@ use std::alloc::{AllocError, Global};
 /// Why a metamodel isn't read.
 pub type MetaFailure = Failure<Fault<ModelFaultKind>>;
 
-/// The metamodel that the value is; else its first fault: those of its form come first, part by part,
-/// and then those of its meaning.
+/// The metamodel that the value is; else its first fault: those of its form come first, part by
+/// part, and then those of its meaning.
 #[tactic(auto, unfolding(crate::specs::Meta::meta_at))]
 pub fn read_meta(alloc: Global, value: &Value) -> Result<Meta, MetaFailure>
     ensures meant { Gives result (spec.meta_at (view value.now)) }
@@ -58,7 +58,8 @@ pub fn as_part<T: Drop, K: Drop>(read: Result<T, Failure<Path>>) -> Result<T, Fa
 
 /// The metamodel of what is written.
 fn metamodel_of(alloc: Global, raw: RawMeta) -> Result<Meta, MetaFailure>
-    ensures { Gives result (fault_as spec.model_fault_at (unless (model_faults raw.classes) (metamodel_of raw))) }
+    ensures { Gives result
+        (fault_as spec.model_fault_at (unless (model_faults raw.classes) (metamodel_of raw))) }
 {
     fault_with(
         build(alloc, raw),
@@ -118,7 +119,8 @@ fn in_part(
     number: usize,
     inner: Path,
 ) -> Result<Path, AllocError>
-    ensures { IfOk result (λ path. path ≡ spec.in_class class (step.Key part.now ∷ step.Place number ∷ inner)) }
+    ensures { IfOk result
+        (λ path. path ≡ spec.in_class class (step.Key part.now ∷ step.Place number ∷ inner)) }
 {
     let inner = keyed(alloc, part, placed(number, inner)?)?;
     in_class(alloc, class, inner)

@@ -20,7 +20,8 @@ pub fn list_value<T, F: Fn(&T) -> Result<Value, AllocError>>(
     one: &F,
 ) -> Result<Value, AllocError>
     requires { F.IsAlwaysCallable one.now }
-    ensures { (data_of : T → Data) → ((x : _) (r : _) → F.post one.now x r → IfOk r (λ v. view v ≡ data_of x.now))
+    ensures { (data_of : T → Data)
+        → ((x : _) (r : _) → F.post one.now x r → IfOk r (λ v. view v ≡ data_of x.now))
         → IfOk result (λ v. view v ≡ list_data data_of items.now) }
 {
     let mut values = Vec::new(alloc);

@@ -7,7 +7,8 @@ ghost use Rattle.hs_types.specs.Metamodel.{Conforms, IsMeta, attributes_of, feat
 /// class that it conforms to.
 pub fn conformance_is_an_order()
     ensures reflexive { (m : Metamodel) (c : ℕ) → Conforms m c c }
-    ensures transitive { (m : Metamodel) (a b c : ℕ) → Conforms m a b → Conforms m b c → Conforms m a c }
+    ensures transitive { (m : Metamodel) (a b c : ℕ) → Conforms m a b → Conforms m b c
+        → Conforms m a c }
     ensures features { (m : Metamodel) (c d f : ℕ) → IsMeta m → Conforms m c d
         → has (features_of m d) f ≡ true → has (features_of m c) f ≡ true }
     ensures attributes { (m : Metamodel) (c d a : ℕ) → IsMeta m → Conforms m c d

@@ -10,7 +10,8 @@ ghost use Rattle.hs_types.specs.TypedGraph.{IsTyped};
 
 use hs_types::rule_sets_are_formed;
 
-/// What stands in front in a lawful journal is lawful, and the graph at each of its places is typed.
+/// What stands in front in a lawful journal is lawful, and the graph at each of its places is
+/// typed.
 pub fn journals_stay_lawful()
     ensures prefixes { (set : RuleSet) (opening : Graph) (entries : List Entry) (n : ℕ)
         → IsLawful set opening entries → IsLawful set opening (take n entries) }
@@ -21,23 +22,29 @@ pub fn journals_stay_lawful()
     rule_sets_are_formed();
 }
 
-/// A lawful journal goes on with each entry that is lawful behind it, and its graph with the entry's.
+/// A lawful journal goes on with each entry that is lawful behind it, and its graph with the
+/// entry's.
 pub fn journals_go_on()
     ensures lawful { (set : RuleSet) (opening : Graph) (entries : List Entry) (entry : Entry)
         → IsLawful set opening entries
         → IsLawfulEntry set entries (after_journal set opening entries) (length entries) entry
         → IsLawful set opening (entries ++ entry ∷ []) }
     ensures graph { (set : RuleSet) (opening : Graph) (entries : List Entry) (entry : Entry)
-        → after_journal set opening (entries ++ entry ∷ []) ≡ after_entry set (after_journal set opening entries) entry }
+        → after_journal set opening (entries ++ entry ∷ [])
+        ≡ after_entry set (after_journal set opening entries) entry }
 {}
 
 /// A written journal isn't both lawful and, for some cause, unlawful somewhere; and where it isn't
 /// lawful, there is one first entry and one first cause.
 pub fn lawful_or_not()
-    ensures one_cause { (set : RuleSet) (opening : Graph) (written : List (ℕ × Entry)) (p q : ℕ) (c d : Cause)
-        → IsUnlawfulAt set opening written p c → IsUnlawfulAt set opening written q d → (p ≡ q) × (c ≡ d) }
-    ensures not_both { (set : RuleSet) (opening : Graph) (written : List (ℕ × Entry)) (position : ℕ) (asked : Cause)
-        → IsUnlawfulAt set opening written position asked → IsLawfulWritten set opening written → ⊥ }
+    ensures one_cause { (set : RuleSet) (opening : Graph) (written : List (ℕ × Entry)) (p q : ℕ)
+        (c d : Cause)
+        → IsUnlawfulAt set opening written p c → IsUnlawfulAt set opening written q d
+        → (p ≡ q) × (c ≡ d) }
+    ensures not_both { (set : RuleSet) (opening : Graph) (written : List (ℕ × Entry)) (position : ℕ)
+        (asked : Cause)
+        → IsUnlawfulAt set opening written position asked → IsLawfulWritten set opening written
+        → ⊥ }
 {}
 
 /// An attempt that missed leaves the graph as it was.

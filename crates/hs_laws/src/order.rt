@@ -10,8 +10,8 @@ ghost use Rattle.hs_types.specs.MatchOrder.{IsEarlier};
 ghost use Rattle.hs_types.specs.PlainMatch.{kernel_of};
 ghost use Rattle.hs_types.specs.ValidMatch.{IsFirst, IsLeast, IsValid};
 
-/// Of two different extensions exactly one is the earlier. Where they have as many nodes, it is the one
-/// whose nodes and edges, one list behind the other, come first.
+/// Of two different extensions exactly one is the earlier. Where they have as many nodes, it is the
+/// one whose nodes and edges, one list behind the other, come first.
 pub fn order_is_total()
     ensures irreflexive { (x : Extension) → IsEarlier x x → ⊥ }
     ensures transitive { (x y z : Extension) → IsEarlier x y → IsEarlier y z → IsEarlier x z }

@@ -11,13 +11,15 @@ ghost use Rattle.hs_types.specs.RuleForm.{IsRule};
 ghost use Rattle.hs_types.specs.Spares.{IsSupported, Spares};
 ghost use Rattle.hs_types.specs.Step.{step};
 
-/// A plan that spares what a valid match has, and the kept extensions onto its require parts, leaves
-/// the match valid with these extensions, and with the same plan.
+/// A plan that spares what a valid match has, and the kept extensions onto its require parts,
+/// leaves the match valid with these extensions, and with the same plan.
 pub fn spared_matches_stay_valid()
-    ensures valid { (m : Metamodel) (g : Graph) (plan : Plan) (rule : Rule) (args : Args) (f : Match) (supports : List Extension)
+    ensures valid { (m : Metamodel) (g : Graph) (plan : Plan) (rule : Rule) (args : Args)
+        (f : Match) (supports : List Extension)
         → IsRule m rule → IsSupported m g rule args f supports → Spares m g plan rule f supports
         → IsSupported m (step g plan) rule args f supports }
-    ensures same_plan { (m : Metamodel) (g : Graph) (plan : Plan) (rule : Rule) (args : Args) (f : Match) (supports : List Extension)
+    ensures same_plan { (m : Metamodel) (g : Graph) (plan : Plan) (rule : Rule) (args : Args)
+        (f : Match) (supports : List Extension)
         → IsRule m rule → IsSupported m g rule args f supports → Spares m g plan rule f supports
         → plan_of m (step g plan) rule args f ≡ plan_of m g rule args f }
 {}

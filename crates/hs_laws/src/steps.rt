@@ -34,8 +34,8 @@ pub fn steps_stay_typed()
         → (step g plan).next_name ≡ g.next_name + length plan.make_objects }
 {}
 
-/// The plan of a valid match can be carried out in its graph: what it drops and writes is there, each
-/// once, and what it makes is such as a typed graph has.
+/// The plan of a valid match can be carried out in its graph: what it drops and writes is there,
+/// each once, and what it makes is such as a typed graph has.
 pub fn plans_fit()
     ensures { (m : Metamodel) (g : Graph) (rule : Rule) (args : Args) (f : Match)
         → IsMeta m → IsRule m rule → IsTyped m g → IsValid m g rule args f

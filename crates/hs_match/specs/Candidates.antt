@@ -23,7 +23,9 @@ IsNextFrom P from answer = MatchOption answer (NoneFrom P from) (IsLeastFrom P f
 
 -- The items stand in the order of their numbers, which differ.
 abbrev pub Ascend : {A : Type 0} → (A → ℕ) → List A → Type 0
-Ascend {A} number items = (i j : ℕ) (a b : A) → slice_get items i ≡ Some a → slice_get items j ≡ Some b → i < j → number a < number b
+Ascend {A} number items =
+    (i j : ℕ) (a b : A) → slice_get items i ≡ Some a → slice_get items j ≡ Some b → i < j
+    → number a < number b
 
 -- At n stands an object of the class, and it isn't taken.
 pub record IsFree (m : Metamodel) (g : Graph) (class : ℕ) (taken : List ℕ) (n : ℕ) : Type 0 where
@@ -36,8 +38,10 @@ pub record MayBe (m : Metamodel) (class : ℕ) (taken : List ℕ) (object : Obje
   pub free : has taken object.number ≡ false
 
 -- Edge n is of the reference and joins these two, and it isn't taken.
-pub record IsFreeEdge (g : Graph) (source reference target : ℕ) (taken : List ℕ) (n : ℕ) : Type 0 where
-  pub joins : edge_at g n ≡ Some (record { number = n; source = source; reference = reference; target = target })
+pub record IsFreeEdge (g : Graph) (source reference target : ℕ) (taken : List ℕ)
+    (n : ℕ) : Type 0 where
+  pub joins : edge_at g n
+      ≡ Some (record { number = n; source = source; reference = reference; target = target })
   pub free : has taken n ≡ false
 
 -- The edge is of the reference and joins these two, and it isn't taken.

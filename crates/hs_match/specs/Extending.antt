@@ -21,17 +21,22 @@ pub record Sought : Type 0 where
 
 -- The list is the images of the left nodes, and behind them those of the left edges.
 abbrev pub split : Sought → List ℕ → Extension
-split s images = record { nodes = take (length (left_nodes s.nodes)) images; edges = drop (length (left_nodes s.nodes)) images }
+split s images = record {
+  nodes = take (length (left_nodes s.nodes)) images;
+  edges = drop (length (left_nodes s.nodes)) images;
+}
 
 abbrev pub shape : List PatternNode → List PatternEdge → Shape
 shape nodes edges = record { nodes = nodes; edges = edges; slots = [] }
 
 -- The images extend the base.
 abbrev pub AreImages : Sought → List ℕ → Type 0
-AreImages s images = Extends s.meta s.graph (shape s.base_nodes []) s.base (shape s.nodes s.edges) (split s images)
+AreImages s images =
+    Extends s.meta s.graph (shape s.base_nodes []) s.base (shape s.nodes s.edges) (split s images)
 
 -- An image of the edge between those of its ends, among these images of nodes, that isn't taken.
-pub record IsFreeImage (s : Sought) (nodes edges : List ℕ) (edge : PatternEdge) (n : ℕ) : Type 0 where
+pub record IsFreeImage (s : Sought) (nodes edges : List ℕ) (edge : PatternEdge)
+    (n : ℕ) : Type 0 where
   pub joins : IsImage s.graph (image (s.base_nodes ++ s.nodes) (s.base.nodes ++ nodes)) edge n
   pub free : has (s.base.edges ++ edges) n ≡ false
 
@@ -40,11 +45,14 @@ abbrev pub FitsAs : Sought → List ℕ → ℕ → Option PatternNode → Type 
 FitsAs s front n (Some node) = IsFree s.meta s.graph node.class (s.base.nodes ++ front) n
 FitsAs s front n None =
     IsSomeAnd (slice_get (left_edges s.edges) (length front - length (left_nodes s.nodes)))
-    (λ edge. IsFreeImage s (take (length (left_nodes s.nodes)) front) (drop (length (left_nodes s.nodes)) front) edge n)
+    (λ edge. IsFreeImage s (take (length (left_nodes s.nodes)) front)
+    (drop (length (left_nodes s.nodes)) front) edge n)
 
 abbrev pub FitsNext : Sought → List ℕ → ℕ → Type 0
 FitsNext s front n = FitsAs s front n (slice_get (left_nodes s.nodes) (length front))
 
 -- The object n is no free one of the class, or no images of the whole go on with it.
 abbrev pub NoObject : Sought → ℕ → List ℕ → ℕ → Type 0
-NoObject s class front n = (rest : List ℕ) → IsFree s.meta s.graph class (s.base.nodes ++ front) n → AreImages s (front ++ n ∷ rest) → ⊥
+NoObject s class front n =
+    (rest : List ℕ) → IsFree s.meta s.graph class (s.base.nodes ++ front) n
+    → AreImages s (front ++ n ∷ rest) → ⊥

@@ -6,4 +6,11 @@ use Rattle.hs_match.specs.Extending.{Sought}
 
 -- A match of a shape is an extension of nothing.
 abbrev pub kernel_search : Metamodel → Graph → Shape → Sought
-kernel_search m g shape = record { meta = m; graph = g; base_nodes = []; base = record { nodes = []; edges = [] }; nodes = shape.nodes; edges = shape.edges }
+kernel_search m g shape = record {
+  meta = m;
+  graph = g;
+  base_nodes = [];
+  base = record { nodes = []; edges = [] };
+  nodes = shape.nodes;
+  edges = shape.edges;
+}

@@ -6,8 +6,10 @@ use Rattle.hs_match.specs.declared.link.Link.TheVariants.{From, Into}
 
 -- The other end of the edge, where it has the reference and the known end.
 abbrev pub far_end : Link → Edge → Option ℕ
-far_end (From source reference) edge = if eqb edge.source source && eqb edge.reference reference then Some edge.target else None
-far_end (Into reference target) edge = if eqb edge.target target && eqb edge.reference reference then Some edge.source else None
+far_end (From source reference) edge =
+    if eqb edge.source source && eqb edge.reference reference then Some edge.target else None
+far_end (Into reference target) edge =
+    if eqb edge.target target && eqb edge.reference reference then Some edge.source else None
 
 -- Such an edge, at this place or before it, leads to y.
 pub record IsLinkedBefore (g : Graph) (link : Link) (end y : ℕ) : Type 0 where

@@ -86,7 +86,8 @@ pub fn next_edge(
     from: u64,
 ) -> Option<EdgeNo>
     requires { Ascend (λ edge. edge.number) graph.now.edges }
-    ensures { IsNextFrom (IsFreeEdge graph.now joining.source joining.reference joining.target (base.now ++ taken.now)) from result }
+    ensures { IsNextFrom (IsFreeEdge graph.now joining.source joining.reference joining.target
+        (base.now ++ taken.now)) from result }
 {
     let edges = graph.edges.as_slice();
     for i in 0..edges.len() {
@@ -100,7 +101,8 @@ pub fn next_edge(
 
 /// Whether the edge is of that kind and in neither list.
 fn may_join(edge: Edge, joining: Joining, base: &[EdgeNo], taken: &[EdgeNo]) -> bool
-    ensures { IsTrue result ↔ MayJoin joining.source joining.reference joining.target (base.now ++ taken.now) edge }
+    ensures { IsTrue result ↔ MayJoin joining.source joining.reference joining.target
+        (base.now ++ taken.now) edge }
 {
     edge.source == joining.source
         && edge.reference == joining.reference

@@ -40,7 +40,8 @@ impl<'a> Extending<'a> {
           nodes = nodes.now;
           edges = edges.now;
         } }
-        ensures size { result.node_count + result.edge_count ≡ length (left_nodes nodes.now) + length (left_edges edges.now) }
+        ensures size { result.node_count + result.edge_count
+            ≡ length (left_nodes nodes.now) + length (left_edges edges.now) }
     {
         Extending {
             meta,
@@ -83,10 +84,13 @@ impl Extending<'_> {
     // A number from here on that the next node's image may be.
     fn next_node_image(&self, class: ClassNo, front: &[u32], from: u64) -> Option<ObjectNo>
         requires { length front.now < self.now.node_count }
-        ensures fits { IfSome result (λ x. IsFree self.now.meta.now self.now.graph.now class (self.now.base_images.now ++ front.now) x) }
+        ensures fits { IfSome result (λ x. IsFree self.now.meta.now self.now.graph.now class
+            (self.now.base_images.now ++ front.now) x) }
         ensures from { IfSome result (λ x. from ≤ x) }
-        ensures passed { IfSome result (λ x. (y : ℕ) → from ≤ y → y < x → NoObject (sought self.now) class front.now y) }
-        ensures none { IfNone result ((y : ℕ) → from ≤ y → NoObject (sought self.now) class front.now y) }
+        ensures passed { IfSome result
+            (λ x. (y : ℕ) → from ≤ y → y < x → NoObject (sought self.now) class front.now y) }
+        ensures none { IfNone result
+            ((y : ℕ) → from ≤ y → NoObject (sought self.now) class front.now y) }
     {
         let base = self.base_images;
         match self.link(front) {
@@ -99,8 +103,10 @@ impl Extending<'_> {
     fn next_edge_image(&self, front: &[u32], from: u64) -> Option<EdgeNo>
         requires behind { self.now.node_count ≤ length front.now }
         requires left { length front.now < self.now.node_count + self.now.edge_count }
-        ensures { IsSomeAnd (slice_get (left_edges self.now.edges.now) (length front.now - self.now.node_count))
-            (λ edge. IsNextFrom (IsFreeImage (sought self.now) (take self.now.node_count front.now) (drop self.now.node_count front.now) edge) from result) }
+        ensures { IsSomeAnd (slice_get (left_edges self.now.edges.now)
+            (length front.now - self.now.node_count))
+            (λ edge. IsNextFrom (IsFreeImage (sought self.now) (take self.now.node_count front.now)
+            (drop self.now.node_count front.now) edge) from result) }
     {
         let (nodes, edges) = front.split_at(self.node_count);
         let edge = left_edge(self.edges, edges.len())?;
@@ -113,7 +119,8 @@ impl Extending<'_> {
     }
 
     fn image(&self, images: &[ObjectNo], node: u16) -> ObjectNo
-        ensures { result ≡ image (self.now.base_nodes.now ++ self.now.nodes.now) (self.now.base_images.now ++ images.now) node }
+        ensures { result ≡ image (self.now.base_nodes.now ++ self.now.nodes.now)
+            (self.now.base_images.now ++ images.now) node }
     {
         image_of(self.base_nodes, self.nodes, self.base_images, images, node)
     }
@@ -123,7 +130,9 @@ impl Extending<'_> {
     // An edge that the object which comes behind these must have.
     fn link(&self, front: &[ObjectNo]) -> Option<Link>
         requires { length front.now < self.now.node_count }
-        ensures { IfSome result (λ link. (y : ℕ) (rest : List ℕ) → AreImages (sought self.now) (front.now ++ y ∷ rest) → IsLinked self.now.graph.now link y) }
+        ensures { IfSome result
+            (λ link. (y : ℕ) (rest : List ℕ) → AreImages (sought self.now) (front.now ++ y ∷ rest)
+            → IsLinked self.now.graph.now link y) }
     {
         for place in 0..self.edge_count {
             if let Some(edge) = left_edge(self.edges, place) {
@@ -136,10 +145,12 @@ impl Extending<'_> {
         None
     }
 
-    // What an image of the edge says of the object behind these, where its other end is among these.
+    // What an image of the edge says of the object behind these, where its other end is among
+    // these.
     fn link_of(&self, edge: &PatternEdge, front: &[ObjectNo]) -> Option<Link>
         ensures { IfSome result (λ link. (y : ℕ) (rest : List ℕ) (n : ℕ)
-            → IsImage self.now.graph.now (image (self.now.base_nodes.now ++ self.now.nodes.now) (self.now.base_images.now ++ (front.now ++ y ∷ rest))) edge.now n
+            → IsImage self.now.graph.now (image (self.now.base_nodes.now ++ self.now.nodes.now)
+            (self.now.base_images.now ++ (front.now ++ y ∷ rest))) edge.now n
             → IsLinked self.now.graph.now link y) }
     {
         let here = self.base_images.len() + front.len();

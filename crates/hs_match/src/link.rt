@@ -31,7 +31,8 @@ pub fn next_end(
     from: u64,
 ) -> Option<ObjectNo>
     requires { Ascend (λ object. object.number) graph.now.objects }
-    ensures { IsNextFrom (λ y. IsFree meta.now graph.now class (base.now ++ taken.now) y × IsLinked graph.now link y) from result }
+    ensures { IsNextFrom (λ y. IsFree meta.now graph.now class (base.now ++ taken.now) y
+        × IsLinked graph.now link y) from result }
 {
     let mut least = None;
     let edges = graph.edges.as_slice();

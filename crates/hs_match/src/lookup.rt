@@ -7,8 +7,10 @@ use hs_types::{ClassNo, Graph, Meta, Object, ObjectNo};
 /// The place of the first object whose number is `from` or above.
 pub fn first_from(objects: &[Object], from: u64) -> usize
     requires { Ascend (λ object. object.number) objects.now }
-    ensures before { (i : ℕ) (object : _) → slice_get objects.now i ≡ Some object → i < result → object.number < from }
-    ensures behind { (i : ℕ) (object : _) → slice_get objects.now i ≡ Some object → result ≤ i → from ≤ object.number }
+    ensures before { (i : ℕ) (object : _) → slice_get objects.now i ≡ Some object → i < result
+        → object.number < from }
+    ensures behind { (i : ℕ) (object : _) → slice_get objects.now i ≡ Some object → result ≤ i
+        → from ≤ object.number }
 {
     objects.partition_point(|object| u64::from(object.number) < from)
 }

@@ -40,7 +40,8 @@ pub fn is_applicable(meta: &Meta, graph: &Graph, rule: &Rule) -> bool
     requires in_order { InOrder graph.now }
     requires small { IsSmall rule.now.shape }
     requires only_adds { OnlyAdds rule.now }
-    ensures { (answer : Option Match) × IsFirst meta.now graph.now rule.now no_args answer × (result ≡ is_some answer) }
+    ensures { (answer : Option Match) × IsFirst meta.now graph.now rule.now no_args answer
+        × (result ≡ is_some answer) }
 {
     first_images(meta, graph, &rule.shape).is_some()
 }
@@ -50,9 +51,11 @@ fn first_images(meta: &Meta, graph: &Graph, shape: &Shape) -> Option<Numbers>
     requires in_order { InOrder graph.now }
     requires small { IsSmall shape.now }
     ensures least { IfSome result (λ found. IsLeastList
-        (IsChoice (length (left_nodes shape.now.nodes) + length (left_edges shape.now.edges)) (AreImages (kernel_search meta.now graph.now shape.now))) found.items) }
+        (IsChoice (length (left_nodes shape.now.nodes) + length (left_edges shape.now.edges))
+        (AreImages (kernel_search meta.now graph.now shape.now))) found.items) }
     ensures none { IfNone result (IsNone
-        (IsChoice (length (left_nodes shape.now.nodes) + length (left_edges shape.now.edges)) (AreImages (kernel_search meta.now graph.now shape.now)))) }
+        (IsChoice (length (left_nodes shape.now.nodes) + length (left_edges shape.now.edges))
+        (AreImages (kernel_search meta.now graph.now shape.now)))) }
 {
     let nodes = shape.nodes.as_slice();
     let edges = shape.edges.as_slice();

@@ -15,10 +15,12 @@ begins_name b = (nat_le 65 b && nat_le b 90) || (nat_le 97 b && nat_le b 122) ||
 abbrev pub goes_on_in_name : ℕ → Bool
 goes_on_in_name b = begins_name b || (nat_le 48 b && nat_le b 57)
 
--- Classes, attributes and references are named by a letter or `_`, and then letters, digits and `_`, at most 64 bytes in all.
+-- Classes, attributes and references are named by a letter or `_`, and then letters, digits and
+-- `_`, at most 64 bytes in all.
 abbrev pub is_identifier : List ℕ → Bool
 is_identifier [] = false
-is_identifier (b ∷ bs) = begins_name b && list_all goes_on_in_name bs && nat_lt (length bs) MAX_IDENTIFIER_BYTES
+is_identifier (b ∷ bs) =
+    begins_name b && list_all goes_on_in_name bs && nat_lt (length bs) MAX_IDENTIFIER_BYTES
 
 -- No text comes twice.
 abbrev pub differ : List (List ℕ) → Bool

@@ -8,4 +8,6 @@ ranks rows = map (λ row. count_by not row) rows
 
 -- Each supertype of a class is a class, and has a lower rank.
 abbrev pub AreRanked : List (List ℕ) → List ℕ → Type 0
-AreRanked supers ranks = (c s : ℕ) → has (get_or supers c []) s ≡ true → (s < length supers) × (get_or ranks s 0 < get_or ranks c 0)
+AreRanked supers ranks =
+    (c s : ℕ) → has (get_or supers c []) s ≡ true
+    → (s < length supers) × (get_or ranks s 0 < get_or ranks c 0)

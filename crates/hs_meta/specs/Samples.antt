@@ -8,7 +8,13 @@ use Rattle.hs_meta.specs.declared.raw.RawReference.{RawReference}
 
 -- A class with these supertypes, attributes and references.
 abbrev pub sample_class : List ℕ → List (List ℕ) → List RawAttribute → List RawReference → RawClass
-sample_class name supers attributes references = record { name = name; is_abstract = false; supers = supers; attributes = attributes; references = references }
+sample_class name supers attributes references = record {
+  name = name;
+  is_abstract = false;
+  supers = supers;
+  attributes = attributes;
+  references = references;
+}
 
 -- An attribute without a default.
 abbrev pub sample_attribute : List ℕ → List ℕ → RawAttribute
@@ -16,19 +22,31 @@ sample_attribute name data_type = record { name = name; data_type = data_type; d
 
 -- A reference to one target or more.
 abbrev pub sample_reference : List ℕ → List ℕ → RawReference
-sample_reference name target = record { name = name; target = target; containment = false; lower = pos 1; upper = negsuc 0 }
+sample_reference name target = record {
+  name = name;
+  target = target;
+  containment = false;
+  lower = pos 1;
+  upper = negsuc 0;
+}
 
 -- D is below B and C, and both are below A, which stands last.
 abbrev pub diamond : RawMeta
 diamond = record {
   format = 1;
   classes =
-      sample_class (codes "D") (codes "B" ∷ codes "C" ∷ []) [] (sample_reference (codes "r") (codes "A") ∷ []) ∷
-      sample_class (codes "B") (codes "A" ∷ []) (sample_attribute (codes "y") (codes "EString") ∷ []) [] ∷
+      sample_class (codes "D") (codes "B" ∷ codes "C" ∷ []) []
+      (sample_reference (codes "r") (codes "A") ∷ []) ∷
+      sample_class (codes "B") (codes "A" ∷ [])
+      (sample_attribute (codes "y") (codes "EString") ∷ []) [] ∷
       sample_class (codes "C") (codes "A" ∷ []) [] [] ∷
       sample_class (codes "A") [] (sample_attribute (codes "x") (codes "EInt") ∷ []) [] ∷ [];
 }
 
 -- A leads to B, which is below itself.
 abbrev pub cycle : RawMeta
-cycle = record { format = 1; classes = sample_class (codes "A") (codes "B" ∷ []) [] [] ∷ sample_class (codes "B") (codes "B" ∷ []) [] [] ∷ [] }
+cycle = record {
+  format = 1;
+  classes = sample_class (codes "A") (codes "B" ∷ []) [] []
+      ∷ sample_class (codes "B") (codes "B" ∷ []) [] [] ∷ [];
+}

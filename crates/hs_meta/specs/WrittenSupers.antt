@@ -12,4 +12,7 @@ written_supers classes = map (λ class. filter_map (raw_class_number classes) cl
 
 -- The same, with the rows of what they reach.
 abbrev pub supers_found : List RawClass → Supers
-supers_found classes = record { direct = written_supers classes; rows = reach_rows (written_supers classes) }
+supers_found classes = record {
+  direct = written_supers classes;
+  rows = reach_rows (written_supers classes);
+}

@@ -49,8 +49,10 @@ fn check_by_supers(
 ) -> Result<(), Failure<ModelFault>>
     requires { rows.now ≡ rows_for (supertypes.written_supers classes.now) }
     ensures { (before : List ModelFault) → verdict before ≡ Ok tt
-        → Gives result (verdict (before ++ spec.super_cycles classes.now ++ spec.unknown_types classes.now ++ spec.bad_defaults classes.now
-        ++ spec.bad_bounds classes.now ++ spec.repeated_features classes.now ++ spec.many_features classes.now)) }
+        → Gives result (verdict (before ++ spec.super_cycles classes.now
+        ++ spec.unknown_types classes.now ++ spec.bad_defaults classes.now
+        ++ spec.bad_bounds classes.now ++ spec.repeated_features classes.now
+        ++ spec.many_features classes.now)) }
 {
     as_failure(inherited::no_cycle(classes, rows))?;
     as_failure(declared::types_known(classes))?;

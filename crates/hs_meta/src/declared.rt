@@ -73,7 +73,8 @@ fn reference_names_right(c: usize, class: &RawClass) -> Result<(), ModelFault>
 }
 
 fn name_right(name: &Text, place: ModelPlace) -> Result<(), ModelFault>
-    ensures { result ≡ verdict (fault_if (not (names.is_identifier name.now)) (spec.model_fault place ModelFaultKind.Name)) }
+    ensures { result ≡ verdict (fault_if (not (names.is_identifier name.now))
+        (spec.model_fault place ModelFaultKind.Name)) }
 {
     fault_if(!is_identifier(name), fault(place, ModelFaultKind::Name))
 }
@@ -128,7 +129,8 @@ pub fn types_known(classes: &[RawClass]) -> Result<(), ModelFault>
 
 #[tactic(auto, using(hs_expr::proofs::Verdicts::each_steps))]
 fn types_known_in(classes: &[RawClass], c: usize, class: &RawClass) -> Result<(), ModelFault>
-    ensures { result ≡ verdict (each (spec.unknown_type c) class.now.attributes ++ each (spec.unknown_target classes.now c) class.now.references) }
+    ensures { result ≡ verdict (each (spec.unknown_type c) class.now.attributes
+        ++ each (spec.unknown_target classes.now c) class.now.references) }
 {
     data_types_known(c, class)?;
     targets_known(classes, c, class)

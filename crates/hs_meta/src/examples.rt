@@ -13,10 +13,14 @@ ghost use Rattle.hs_meta.specs.Samples.{cycle, diamond};
 /// Of a diamond, where what is inherited by two ways is one feature.
 pub fn inheritance()
     ensures right { model_faults diamond.classes ≡ [] }
-    ensures supers { map (λ class. class.supers) (metamodel_of diamond).classes ≡ (1 ∷ 2 ∷ []) ∷ (3 ∷ []) ∷ (3 ∷ []) ∷ [] ∷ [] }
-    ensures inherited { map (λ class. class.features) (metamodel_of diamond).classes ≡ (2 ∷ 1 ∷ 0 ∷ []) ∷ (2 ∷ 1 ∷ []) ∷ (2 ∷ []) ∷ (2 ∷ []) ∷ [] }
-    ensures owners { map (λ feature. feature.owner) (metamodel_of diamond).features ≡ 0 ∷ 1 ∷ 3 ∷ [] }
-    ensures kinds { map (λ feature. feature.kind) (metamodel_of diamond).features ≡ Reference 3 false 1 None ∷ Attribute EString (value.Text []) ∷ Attribute EInt (value.Int (pos 0)) ∷ [] }
+    ensures supers { map (λ class. class.supers) (metamodel_of diamond).classes
+        ≡ (1 ∷ 2 ∷ []) ∷ (3 ∷ []) ∷ (3 ∷ []) ∷ [] ∷ [] }
+    ensures inherited { map (λ class. class.features) (metamodel_of diamond).classes
+        ≡ (2 ∷ 1 ∷ 0 ∷ []) ∷ (2 ∷ 1 ∷ []) ∷ (2 ∷ []) ∷ (2 ∷ []) ∷ [] }
+    ensures owners { map (λ feature. feature.owner) (metamodel_of diamond).features
+        ≡ 0 ∷ 1 ∷ 3 ∷ [] }
+    ensures kinds { map (λ feature. feature.kind) (metamodel_of diamond).features ≡ Reference 3
+        false 1 None ∷ Attribute EString (value.Text []) ∷ Attribute EInt (value.Int (pos 0)) ∷ [] }
 {}
 
 /// Of a class that leads to a cycle, and one that lies on it.

@@ -16,7 +16,8 @@ pub enum ModelFaultKind {
     UnknownType,
     /// A default isn't a value of its attribute's type.
     BadDefault,
-    /// A reference has no room for a target, needs more than it has room for, or needs fewer than 0.
+    /// A reference has no room for a target, needs more than it has room for, or needs fewer than
+    /// 0.
     BadBounds,
     /// There are too many classes, or too many features in one.
     Limit,

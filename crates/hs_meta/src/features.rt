@@ -72,7 +72,9 @@ pub fn with_inherited(
     requires ranks { length ranks.now ≡ length supers.now }
     requires low { All (λ rank. rank ≤ length supers.now) ranks.now }
     requires ranked { spec.AreRanked supers.now ranks.now }
-    ensures { IfOk result (λ made. made ≡ map (meaning.features_within supers.now own (length supers.now)) (range_with_len 0 (length supers.now))) }
+    ensures { IfOk result
+        (λ made. made ≡ map (meaning.features_within supers.now own (length supers.now))
+        (range_with_len 0 (length supers.now))) }
 {
     let mut made = own.into_vec();
     for rank in 0..supers.len() + 1 {
@@ -94,7 +96,8 @@ fn add_inherited(
     requires ranks { length ranks.now ≡ length supers.now }
     requires low { All (λ rank. rank ≤ length supers.now) ranks.now }
     requires ranked { spec.AreRanked supers.now ranks.now }
-    ensures { (own : List (List ℕ)) → inheriting.AreFoundBefore supers.now own ranks.now rank 0 made.old
+    ensures { (own : List (List ℕ))
+        → inheriting.AreFoundBefore supers.now own ranks.now rank 0 made.old
         → OnOk result (inheriting.AreFoundBefore supers.now own ranks.now (rank + 1) 0 made.new) }
 {
     for (c, own_rank) in ranks.iter().enumerate() {
@@ -113,7 +116,8 @@ fn put_inherited_first(
     made: &mut [List<FeatureNo>],
 ) -> Result<(), AllocError>
     requires { c < length made.old }
-    ensures { OnOk result (made.new ≡ slice_set made.old c (each_once (flat_map (λ s. get_or made.old s []) supers.now) ++ get_or made.old c [])) }
+    ensures { OnOk result (made.new ≡ slice_set made.old c
+        (each_once (flat_map (λ s. get_or made.old s []) supers.now) ++ get_or made.old c [])) }
 {
     let mut features = inherited(alloc, supers, made)?;
     add_all(made[c].as_slice(), &mut features)?;
@@ -127,7 +131,8 @@ fn inherited(
     supers: &[usize],
     made: &[List<FeatureNo>],
 ) -> Result<List<FeatureNo>, AllocError>
-    ensures { IfOk result (λ features. features ≡ each_once (flat_map (λ s. get_or made.now s []) supers.now)) }
+    ensures { IfOk result
+        (λ features. features ≡ each_once (flat_map (λ s. get_or made.now s []) supers.now)) }
 {
     let mut features = List::new(alloc);
     for s in supers {
@@ -150,7 +155,8 @@ fn add_all(more: &[FeatureNo], numbers: &mut List<FeatureNo>) -> Result<(), Allo
 
 /// Adds those numbers that aren't there yet.
 fn add_further(more: &[FeatureNo], numbers: &mut List<FeatureNo>) -> Result<(), AllocError>
-    ensures { (rest : List ℕ) → OnOk result (inheriting.with_further numbers.new rest ≡ inheriting.with_further numbers.old (more.now ++ rest)) }
+    ensures { (rest : List ℕ) → OnOk result (inheriting.with_further numbers.new rest
+        ≡ inheriting.with_further numbers.old (more.now ++ rest)) }
 {
     for number in more {
         add_if_new(*number, numbers)?;
@@ -161,7 +167,8 @@ fn add_further(more: &[FeatureNo], numbers: &mut List<FeatureNo>) -> Result<(), 
 /// Adds a number where it isn't there yet.
 #[tactic(auto, using(crate::proofs::Inheriting::further))]
 fn add_if_new(number: FeatureNo, numbers: &mut List<FeatureNo>) -> Result<(), AllocError>
-    ensures { (rest : List ℕ) → OnOk result (inheriting.with_further numbers.new rest ≡ inheriting.with_further numbers.old (number ∷ rest)) }
+    ensures { (rest : List ℕ) → OnOk result (inheriting.with_further numbers.new rest
+        ≡ inheriting.with_further numbers.old (number ∷ rest)) }
 {
     if has(numbers.as_slice(), number) {
         return Ok(());

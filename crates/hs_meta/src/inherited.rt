@@ -98,7 +98,8 @@ fn feature_names(
 }
 
 fn conforms(rows: &[List<bool>], c: usize, d: usize) -> bool
-    ensures { (supers : _) → rows.now ≡ rows_for supers → d < length supers → result ≡ metamodel.conforms supers c d }
+    ensures { (supers : _) → rows.now ≡ rows_for supers → d < length supers
+        → result ≡ metamodel.conforms supers c d }
 {
     c == d || reaches(rows, c, d)
 }
@@ -114,7 +115,8 @@ fn add_attribute_names(
     attributes: &[RawAttribute],
     names: &mut List<Text>,
 ) -> Result<(), AllocError>
-    ensures { OnOk result (names.new ≡ names.old ++ map (λ attribute. attribute.name) attributes.now) }
+    ensures { OnOk result
+        (names.new ≡ names.old ++ map (λ attribute. attribute.name) attributes.now) }
 {
     for attribute in attributes {
         names.push(attribute.name.clone()?)?;
@@ -126,7 +128,8 @@ fn add_reference_names(
     references: &[RawReference],
     names: &mut List<Text>,
 ) -> Result<(), AllocError>
-    ensures { OnOk result (names.new ≡ names.old ++ map (λ reference. reference.name) references.now) }
+    ensures { OnOk result
+        (names.new ≡ names.old ++ map (λ reference. reference.name) references.now) }
 {
     for reference in references {
         names.push(reference.name.clone()?)?;

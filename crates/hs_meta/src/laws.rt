@@ -8,8 +8,8 @@ ghost use Rattle.hs_meta.specs.Faults.{model_faults};
 ghost use Rattle.hs_meta.specs.Meaning.{metamodel_of};
 ghost use Rattle.hs_types.specs.Reachability.{SaysReaches};
 
-/// The test of reachability, by counted steps, says exactly that there is a path of one edge or more;
-/// so of classes that one has the other among its supertypes.
+/// The test of reachability, by counted steps, says exactly that there is a path of one edge or
+/// more; so of classes that one has the other among its supertypes.
 pub fn below_is_reached()
     ensures { SaysReaches }
 {}
@@ -18,5 +18,6 @@ pub fn below_is_reached()
 /// classes, each with at most 64 features.
 pub fn metamodels_are_denoted()
     ensures whole { (raw : RawMeta) → model_faults raw.classes ≡ [] → IsMeta (metamodel_of raw) }
-    ensures small { (raw : RawMeta) → model_faults raw.classes ≡ [] → IsSmallMeta (metamodel_of raw) }
+    ensures small { (raw : RawMeta) → model_faults raw.classes ≡ []
+        → IsSmallMeta (metamodel_of raw) }
 {}

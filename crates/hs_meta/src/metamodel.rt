@@ -23,8 +23,8 @@ use hs_types::limits::MAX_CLASSES;
 use hs_types::{Class, ClassNo, DataType, Feature, FeatureKind, FeatureNo, Meta, Metamodel};
 use std::alloc::{AllocError, Global};
 
-/// The metamodel that is written, where that has no fault, or else the first fault of the ten checks,
-/// each over the classes in order.
+/// The metamodel that is written, where that has no fault, or else the first fault of the ten
+/// checks, each over the classes in order.
 #[tactic(auto, using(hs_expr::proofs::Faults::values))]
 pub fn build(alloc: Global, raw: RawMeta) -> Result<Meta, Failure<ModelFault>>
     ensures built { Gives result (unless (model_faults raw.classes) (spec.metamodel_of raw)) }
@@ -66,7 +66,8 @@ fn features_of_each(
 ) -> Result<List<List<FeatureNo>>, AllocError>
     requires free { model_faults classes.now ≡ [] }
     requires supers { supers.now ≡ supers_found classes.now }
-    ensures { IfOk result (λ features. features ≡ map (spec.features_at classes.now) (range_with_len 0 (length classes.now))) }
+    ensures { IfOk result (λ features. features
+        ≡ map (spec.features_at classes.now) (range_with_len 0 (length classes.now))) }
 {
     let own = own_numbers(alloc, classes)?;
     let ranks = ranks_of(alloc, supers.rows.as_slice())?;
@@ -83,8 +84,10 @@ fn meta_of(
 ) -> Result<Metamodel, AllocError>
     requires few { length classes ≤ MAX_CLASSES }
     requires numbered { KnowsClasses numbers.now classes }
-    requires found { features.now ≡ map (spec.features_at classes) (range_with_len 0 (length classes)) }
-    ensures { IfOk result (λ meta. meta ≡ spec.metamodel_of (record { format = format; classes = classes })) }
+    requires found { features.now
+        ≡ map (spec.features_at classes) (range_with_len 0 (length classes)) }
+    ensures { IfOk result
+        (λ meta. meta ≡ spec.metamodel_of (record { format = format; classes = classes })) }
 {
     let mut meta = Metamodel {
         format,
@@ -118,7 +121,13 @@ fn add_class(
     ensures { (classes : List RawClass) → KnowsClasses numbers.now classes
         → OnOk result (meta.new ≡ record {
           format = meta.old.format;
-          classes = meta.old.classes ++ (record { name = class.name; is_abstract = class.is_abstract; supers = spec.direct_supers classes class; features = features }) ∷ [];
+          classes = meta.old.classes
+              ++ (record {
+                name = class.name;
+                is_abstract = class.is_abstract;
+                supers = spec.direct_supers classes class;
+                features = features;
+              }) ∷ [];
           features = meta.old.features ++ spec.own_features classes number class;
         }) }
 {
@@ -158,7 +167,8 @@ fn add_features(
     features: &mut List<Feature>,
 ) -> Result<(), AllocError>
     ensures { (classes : List RawClass) → KnowsClasses numbers.now classes
-        → OnOk result (features.new ≡ features.old ++ (map (spec.attribute_of_raw owner) attributes ++ map (spec.reference_of_raw classes owner) references)) }
+        → OnOk result (features.new ≡ features.old ++ (map (spec.attribute_of_raw owner) attributes
+        ++ map (spec.reference_of_raw classes owner) references)) }
 {
     add_attributes(alloc, owner, attributes, features)?;
     add_references(owner, references, numbers, features)?;
@@ -171,7 +181,8 @@ fn add_attributes(
     attributes: List<RawAttribute>,
     features: &mut List<Feature>,
 ) -> Result<(), AllocError>
-    ensures { OnOk result (features.new ≡ features.old ++ map (spec.attribute_of_raw owner) attributes) }
+    ensures { OnOk result
+        (features.new ≡ features.old ++ map (spec.attribute_of_raw owner) attributes) }
 {
     for attribute in attributes.into_vec() {
         features.push(attribute_of_raw(alloc, owner, attribute))?;
@@ -225,7 +236,8 @@ fn add_references(
     features: &mut List<Feature>,
 ) -> Result<(), AllocError>
     ensures { (classes : List RawClass) → KnowsClasses numbers.now classes
-        → OnOk result (features.new ≡ features.old ++ map (spec.reference_of_raw classes owner) references) }
+        → OnOk result (features.new
+        ≡ features.old ++ map (spec.reference_of_raw classes owner) references) }
 {
     for reference in references.into_vec() {
         features.push(reference_of_raw(owner, reference, numbers))?;
@@ -234,7 +246,8 @@ fn add_references(
 }
 
 fn reference_of_raw(owner: ClassNo, reference: RawReference, numbers: &Numbers) -> Feature
-    ensures { (classes : List RawClass) → KnowsClasses numbers.now classes → result ≡ spec.reference_of_raw classes owner reference }
+    ensures { (classes : List RawClass) → KnowsClasses numbers.now classes
+        → result ≡ spec.reference_of_raw classes owner reference }
 {
     let RawReference {
         name,

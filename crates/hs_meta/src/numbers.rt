@@ -35,7 +35,8 @@ fn add_class(
     number: ClassNo,
     numbers: &mut Numbers,
 ) -> Result<(), AllocError>
-    ensures { (classes : List RawClass) → slice_get classes number ≡ Some class.now → KnowsClasses numbers.old (take number classes)
+    ensures { (classes : List RawClass) → slice_get classes number ≡ Some class.now
+        → KnowsClasses numbers.old (take number classes)
         → OnOk result (KnowsClasses numbers.new (take (number + 1) classes)) }
 {
     if numbers.contains_key(class.name.as_str()) {
@@ -48,7 +49,8 @@ fn add_class(
 
 /// The number of the class of this name.
 pub fn number_of(numbers: &Numbers, name: &Text) -> ClassNo
-    ensures { (classes : List RawClass) → KnowsClasses numbers.now classes → result ≡ unwrap_or (names.raw_class_number classes name.now) 0 }
+    ensures { (classes : List RawClass) → KnowsClasses numbers.now classes
+        → result ≡ unwrap_or (names.raw_class_number classes name.now) 0 }
 {
     numbers.get(name.as_str()).copied().unwrap_or(0)
 }
@@ -59,7 +61,8 @@ pub fn numbers_named(
     numbers: &Numbers,
     texts: &[Text],
 ) -> Result<List<ClassNo>, AllocError>
-    ensures { (classes : List RawClass) → KnowsClasses numbers.now classes → IfOk result (λ found. found ≡ filter_map (names.raw_class_number classes) texts.now) }
+    ensures { (classes : List RawClass) → KnowsClasses numbers.now classes
+        → IfOk result (λ found. found ≡ filter_map (names.raw_class_number classes) texts.now) }
 {
     let mut found = List::new(alloc);
     for text in texts {
@@ -70,7 +73,8 @@ pub fn numbers_named(
 
 fn add_named(numbers: &Numbers, text: &Text, found: &mut List<ClassNo>) -> Result<(), AllocError>
     ensures { (classes : List RawClass) (rest : List (List ℕ)) → KnowsClasses numbers.now classes
-        → OnOk result (found.new ++ filter_map (names.raw_class_number classes) rest ≡ found.old ++ filter_map (names.raw_class_number classes) (text.now ∷ rest)) }
+        → OnOk result (found.new ++ filter_map (names.raw_class_number classes) rest
+        ≡ found.old ++ filter_map (names.raw_class_number classes) (text.now ∷ rest)) }
 {
     match numbers.get(text.as_str()) {
         Some(number) => found.push(*number),

@@ -27,7 +27,8 @@ fn numbers_of(
     classes: &[RawClass],
     names: &[Text],
 ) -> Result<List<usize>, AllocError>
-    ensures { IfOk result (λ numbers. numbers ≡ filter_map (by_name.raw_class_number classes.now) names.now) }
+    ensures { IfOk result
+        (λ numbers. numbers ≡ filter_map (by_name.raw_class_number classes.now) names.now) }
 {
     let mut numbers = List::new(alloc);
     for name in names {

@@ -1,4 +1,5 @@
--- Which vertices of a graph reach which. A graph gives of each vertex the vertices that its edges lead to.
+-- Which vertices of a graph reach which. A graph gives of each vertex the vertices that its edges
+-- lead to.
 use Rattle.std.specs.Prelude.{ℕ, ◌≡◌, ◌<◌, ◌↔◌, List, [], Bool, true, eqb, ◌||◌, get_or, length, Option, Some, None, false}
 use Rattle.std.specs.List.{find, list_any}
 use Rattle.hs_expr.specs.Lists.{has}
@@ -31,7 +32,9 @@ first_reached graph order n = find (has_path graph n) order
 
 -- Of the vertices in this order, each is reached from the first one that it reaches.
 abbrev pub IsOrderly : List (List ℕ) → List ℕ → Type 0
-IsOrderly graph order = (n k : ℕ) → has order n ≡ true → first_reached graph order n ≡ Some k → has_path graph k n ≡ true
+IsOrderly graph order =
+    (n k : ℕ) → has order n ≡ true → first_reached graph order n ≡ Some k
+    → has_path graph k n ≡ true
 
 -- The second graph has the edges of the first, reversed.
 abbrev pub AreReversed : List (List ℕ) → List (List ℕ) → Type 0
@@ -40,7 +43,8 @@ AreReversed graph reversed = (n k : ℕ) → has_edge reversed k n ≡ has_edge 
 -- Two vertices have the same mark exactly where each reaches the other.
 abbrev pub AreComponents : List (List ℕ) → List (Option ℕ) → Type 0
 AreComponents graph marks =
-    (n k : ℕ) → n < length graph → k < length graph → (get_or marks n None ≡ get_or marks k None) ↔ ((has_path graph n k ≡ true) × (has_path graph k n ≡ true))
+    (n k : ℕ) → n < length graph → k < length graph → (get_or marks n None ≡ get_or marks k None) ↔
+    ((has_path graph n k ≡ true) × (has_path graph k n ≡ true))
 
 abbrev pub same_mark : Option ℕ → Option ℕ → Bool
 same_mark None None = true
@@ -50,4 +54,5 @@ same_mark (Some n) (Some k) = eqb n k
 
 -- An edge leads from vertex n to a vertex with the same mark.
 abbrev pub edge_leads_back : List (List ℕ) → List (Option ℕ) → ℕ → Bool
-edge_leads_back graph marks n = list_any (λ k. same_mark (get_or marks k None) (get_or marks n None)) (get_or graph n [])
+edge_leads_back graph marks n =
+    list_any (λ k. same_mark (get_or marks k None) (get_or marks n None)) (get_or graph n [])

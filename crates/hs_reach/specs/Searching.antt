@@ -23,19 +23,26 @@ abbrev pub IsPath : List (List ℕ) → List ℕ → Type 0
 IsPath graph [] = Unit {0}
 IsPath graph (n ∷ path) = All (λ p. has_path graph p n ≡ true) path × IsPath graph path
 
--- Edges that were followed lead to vertices that were found, and these stand on the path or are finished; each is reached from the first one that it reaches.
-pub record IsSearchOf (graph : List (List ℕ)) (tried : List ℕ) (starts : List (Option ℕ)) (path finished : List ℕ) : Type 0 where
+-- Edges that were followed lead to vertices that were found, and these stand on the path or are
+-- finished; each is reached from the first one that it reaches.
+pub record IsSearchOf (graph : List (List ℕ)) (tried : List ℕ) (starts : List (Option ℕ))
+    (path finished : List ℕ) : Type 0 where
   pub counts : length tried ≡ length graph
   pub marks : length starts ≡ length graph
-  pub edges : (n k : ℕ) → has_edge graph n k ≡ true → (is_found starts k || has (edges_left graph tried n) k) ≡ true
+  pub edges : (n k : ℕ) → has_edge graph n k ≡ true
+      → (is_found starts k || has (edges_left graph tried n) k) ≡ true
   pub done : (n : ℕ) → has finished n ≡ true → edges_left graph tried n ≡ []
   pub found : (n : ℕ) → is_found starts n ≡ (has path n || has finished n)
   pub goes : IsPath graph path
-  pub orderly : (n k : ℕ) → is_found starts n ≡ true → first_reached graph (finish_order path finished) n ≡ Some k → has_path graph k n ≡ true
+  pub orderly : (n k : ℕ) → is_found starts n ≡ true
+      → first_reached graph (finish_order path finished) n ≡ Some k → has_path graph k n ≡ true
 
--- While one start is searched, after others: what is found has as its start the first that reaches it, what isn't found is reached from none of the others, and the path comes from this one.
-pub record StartedFrom (graph : List (List ℕ)) (before : List ℕ) (start : ℕ) (starts : List (Option ℕ)) (path : List ℕ) : Type 0 where
-  pub own : (n s : ℕ) → get_or starts n None ≡ Some s → first_to_reach graph (before ++ start ∷ []) n ≡ Some s
+-- While one start is searched, after others: what is found has as its start the first that reaches
+-- it, what isn't found is reached from none of the others, and the path comes from this one.
+pub record StartedFrom (graph : List (List ℕ)) (before : List ℕ) (start : ℕ)
+    (starts : List (Option ℕ)) (path : List ℕ) : Type 0 where
+  pub own : (n s : ℕ) → get_or starts n None ≡ Some s
+      → first_to_reach graph (before ++ start ∷ []) n ≡ Some s
   pub other : (n : ℕ) → get_or starts n None ≡ None → first_to_reach graph before n ≡ None
   pub reached : All (λ p. has_path graph start p ≡ true) path
 
@@ -57,7 +64,8 @@ vertices_left (Some s ∷ starts) = vertices_left starts
 
 -- What a search has still to do: it falls with each edge.
 abbrev pub work_left : List (List ℕ) → List ℕ → List (Option ℕ) → List ℕ → ℕ
-work_left graph tried starts path = edges_left_count graph tried + (vertices_left starts + vertices_left starts) + length path
+work_left graph tried starts path =
+    edges_left_count graph tried + (vertices_left starts + vertices_left starts) + length path
 
 -- The same of the state that the search is in.
 abbrev pub IsSearchState : List (List ℕ) → Search → Type 0

@@ -31,7 +31,8 @@ pub fn search_all(
     requires whole { TargetsAreVertices graph.now }
     requires within { All (λ n. n < length graph.now) from.now }
     ensures first { IfOk result (λ search. spec.AreFirst graph.now from.now search.starts.items) }
-    ensures found { IfOk result (λ search. (n : ℕ) → spec.is_found search.starts.items n ≡ has search.finished n) }
+    ensures found { IfOk result
+        (λ search. (n : ℕ) → spec.is_found search.starts.items n ≡ has search.finished n) }
     ensures inside { IfOk result (λ search. All (λ n. n < length graph.now) search.finished) }
     ensures orderly { IfOk result (λ search. IsOrderly graph.now search.finished) }
 {
@@ -43,8 +44,10 @@ pub fn search_all(
 }
 
 fn empty_search(alloc: Global, count: usize) -> Result<Search, AllocError>
-    ensures goes { IfOk result (λ search. (graph : List (List ℕ)) → count ≡ length graph → spec.IsSearchState graph search) }
-    ensures first { IfOk result (λ search. (graph : List (List ℕ)) → spec.AreFirst graph [] search.starts.items) }
+    ensures goes { IfOk result (λ search. (graph : List (List ℕ)) → count ≡ length graph
+        → spec.IsSearchState graph search) }
+    ensures first { IfOk result
+        (λ search. (graph : List (List ℕ)) → spec.AreFirst graph [] search.starts.items) }
     ensures at_end { IfOk result (λ search. search.path ≡ []) }
 {
     Ok(Search {
@@ -63,7 +66,8 @@ fn search_from(graph: &[List<usize>], start: usize, search: &mut Search) -> Resu
     requires at_end { search.old.path ≡ [] }
     ensures goes { OnOk result (spec.IsSearchState graph.now search.new) }
     ensures at_end { OnOk result (search.new.path ≡ []) }
-    ensures first { OnOk result ((before : List ℕ) → spec.AreFirst graph.now before search.old.starts.items
+    ensures first { OnOk result
+        ((before : List ℕ) → spec.AreFirst graph.now before search.old.starts.items
         → spec.AreFirst graph.now (before ++ start ∷ []) search.new.starts.items) }
 {
     push_start(start, search)?;
@@ -77,8 +81,10 @@ fn search_from(graph: &[List<usize>], start: usize, search: &mut Search) -> Resu
 fn push_start(start: usize, search: &mut Search) -> Result<(), AllocError>
     requires within { start < length search.old.starts.items }
     requires at_end { search.old.path ≡ [] }
-    ensures goes { OnOk result ((graph : List (List ℕ)) → spec.IsSearchState graph search.old → spec.IsSearchState graph search.new) }
-    ensures comes { OnOk result ((graph : List (List ℕ)) (before : List ℕ) → spec.AreFirst graph before search.old.starts.items
+    ensures goes { OnOk result ((graph : List (List ℕ)) → spec.IsSearchState graph search.old
+        → spec.IsSearchState graph search.new) }
+    ensures comes { OnOk result ((graph : List (List ℕ)) (before : List ℕ)
+        → spec.AreFirst graph before search.old.starts.items
         → spec.IsSearchFrom graph before start search.new) }
     ensures found { OnOk result (spec.is_found search.new.starts.items start ≡ true) }
 {
@@ -101,9 +107,11 @@ fn advance(
     requires goes { spec.IsSearchState graph.now search.old }
     requires at { (rest : List ℕ) × (search.old.path ≡ vertex ∷ rest) }
     ensures goes { OnOk result (spec.IsSearchState graph.now search.new) }
-    ensures comes { OnOk result ((before : List ℕ) → spec.IsSearchFrom graph.now before start search.old
+    ensures comes { OnOk result
+        ((before : List ℕ) → spec.IsSearchFrom graph.now before start search.old
         → spec.IsSearchFrom graph.now before start search.new) }
-    ensures kept { OnOk result (spec.is_found search.old.starts.items start ≡ true → spec.is_found search.new.starts.items start ≡ true) }
+    ensures kept { OnOk result (spec.is_found search.old.starts.items start ≡ true
+        → spec.is_found search.new.starts.items start ≡ true) }
     ensures less { OnOk result (spec.work graph.now search.new < spec.work graph.now search.old) }
 {
     let count = tried_edges(search, vertex);
@@ -143,13 +151,18 @@ pub fn targets_of(graph: &[List<usize>], vertex: usize) -> &[usize]
 fn visit(start: usize, to: usize, search: &mut Search) -> Result<(), AllocError>
     requires { to < length search.old.starts.items }
     ensures tried { OnOk result (search.new.tried.items ≡ search.old.tried.items) }
-    ensures goes { OnOk result ((graph : List (List ℕ)) (vertex : ℕ) (rest : List ℕ) → search.old.path ≡ vertex ∷ rest → has_edge graph vertex to ≡ true
+    ensures goes { OnOk result ((graph : List (List ℕ)) (vertex : ℕ) (rest : List ℕ)
+        → search.old.path ≡ vertex ∷ rest → has_edge graph vertex to ≡ true
         → spec.IsSearchState graph search.old → spec.IsSearchState graph search.new) }
-    ensures comes { OnOk result ((graph : List (List ℕ)) (before : List ℕ) (vertex : ℕ) (rest : List ℕ) → search.old.path ≡ vertex ∷ rest → has_edge graph vertex to ≡ true
-        → spec.IsSearchFrom graph before start search.old → spec.IsSearchFrom graph before start search.new) }
+    ensures comes { OnOk result ((graph : List (List ℕ)) (before : List ℕ) (vertex : ℕ)
+        (rest : List ℕ) → search.old.path ≡ vertex ∷ rest → has_edge graph vertex to ≡ true
+        → spec.IsSearchFrom graph before start search.old
+        → spec.IsSearchFrom graph before start search.new) }
     ensures found { OnOk result (spec.is_found search.new.starts.items to ≡ true) }
-    ensures kept { OnOk result ((n : ℕ) → spec.is_found search.old.starts.items n ≡ true → spec.is_found search.new.starts.items n ≡ true) }
-    ensures no_more { OnOk result ((graph : List (List ℕ)) → spec.work graph search.new ≤ spec.work graph search.old) }
+    ensures kept { OnOk result ((n : ℕ) → spec.is_found search.old.starts.items n ≡ true
+        → spec.is_found search.new.starts.items n ≡ true) }
+    ensures no_more { OnOk result
+        ((graph : List (List ℕ)) → spec.work graph search.new ≤ spec.work graph search.old) }
 {
     if is_found(search, to) {
         return Ok(());

@@ -9,9 +9,9 @@ use crate::reversal::reversed_edges;
 use hs_expr::List;
 use std::alloc::{AllocError, Global};
 
-/// For each vertex a mark, which two vertices have in common exactly where each reaches the other: the
-/// first vertex of an order that it reaches, where the order is the one in which a search finishes
-/// the vertices, the last first.
+/// For each vertex a mark, which two vertices have in common exactly where each reaches the other:
+/// the first vertex of an order that it reaches, where the order is the one in which a search
+/// finishes the vertices, the last first.
 pub fn components(alloc: Global, graph: &[List<usize>]) -> Result<Vec<Option<usize>>, AllocError>
     requires { TargetsAreVertices graph.now }
     ensures { IfOk result (λ marks. AreComponents graph.now marks.items) }

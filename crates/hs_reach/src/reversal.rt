@@ -40,7 +40,8 @@ fn add_reversed(
 ) -> Result<(), AllocError>
     requires { (k : ℕ) → (has edges.now k ≡ true) → k < length reversed.old.items }
     ensures long { OnOk result (length reversed.new.items ≡ length reversed.old.items) }
-    ensures added { OnOk result ((n k : ℕ) → has_edge reversed.new.items k n ≡ (has_edge reversed.old.items k n || (eqb n vertex && has edges.now k))) }
+    ensures added { OnOk result ((n k : ℕ) → has_edge reversed.new.items k n
+        ≡ (has_edge reversed.old.items k n || (eqb n vertex && has edges.now k))) }
 {
     for to in edges {
         add_edge(reversed, *to, vertex)?;
@@ -51,7 +52,8 @@ fn add_reversed(
 fn add_edge(graph: &mut Vec<List<usize>>, vertex: usize, to: usize) -> Result<(), AllocError>
     requires { vertex < length graph.old.items }
     ensures long { OnOk result (length graph.new.items ≡ length graph.old.items) }
-    ensures added { OnOk result ((n k : ℕ) → has_edge graph.new.items n k ≡ (has_edge graph.old.items n k || (eqb k to && eqb n vertex))) }
+    ensures added { OnOk result ((n k : ℕ) → has_edge graph.new.items n k
+        ≡ (has_edge graph.old.items n k || (eqb k to && eqb n vertex))) }
 {
     graph[vertex].push(to)?;
     Ok(())

@@ -15,12 +15,14 @@ floor (Some []) = 0
 floor (Some (x ∷ xs)) = x
 
 -- These numbers make a choice of those in front of them, and come after the bound.
-pub record GoesOn (size : ℕ) (Good : List ℕ → Type 0) (bound : Option (List ℕ)) (front rest : List ℕ) : Type 0 where
+pub record GoesOn (size : ℕ) (Good : List ℕ → Type 0) (bound : Option (List ℕ))
+    (front rest : List ℕ) : Type 0 where
   pub choice : IsChoice size Good (front ++ rest)
   pub above : IsAbove bound rest
 
 -- The list is what was in front and the least that makes a choice of it.
-pub record GoesOnBest (size : ℕ) (Good : List ℕ → Type 0) (bound : Option (List ℕ)) (front all : List ℕ) : Type 0 where
+pub record GoesOnBest (size : ℕ) (Good : List ℕ → Type 0) (bound : Option (List ℕ))
+    (front all : List ℕ) : Type 0 where
   pub rest : List ℕ
   pub joined : all ≡ front ++ rest
   pub best : IsLeastList (GoesOn size Good bound front) rest

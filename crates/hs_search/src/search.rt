@@ -9,7 +9,8 @@ use crate::{Choice, Numbers};
 /// The least choice.
 pub fn least<C: Choice>(choice: &C) -> Option<Numbers>
     requires room { C.size choice.now ≤ 28 }
-    ensures least { IfSome result (λ found. IsLeastList (IsChoice (C.size choice.now) (C.Good choice.now)) found.items) }
+    ensures least { IfSome result
+        (λ found. IsLeastList (IsChoice (C.size choice.now) (C.Good choice.now)) found.items) }
     ensures none { IfNone result (IsNone (IsChoice (C.size choice.now) (C.Good choice.now))) }
 {
     let mut numbers = Numbers::new();
@@ -23,8 +24,10 @@ pub fn least<C: Choice>(choice: &C) -> Option<Numbers>
 /// The least choice that comes after the list.
 pub fn next_after<C: Choice>(choice: &C, after: &[u32]) -> Option<Numbers>
     requires room { C.size choice.now ≤ 28 }
-    ensures least { IfSome result (λ found. IsLeastList (IsChoiceAfter (C.size choice.now) (C.Good choice.now) after.now) found.items) }
-    ensures none { IfNone result (IsNone (IsChoiceAfter (C.size choice.now) (C.Good choice.now) after.now)) }
+    ensures least { IfSome result (λ found.
+        IsLeastList (IsChoiceAfter (C.size choice.now) (C.Good choice.now) after.now) found.items) }
+    ensures none { IfNone result
+        (IsNone (IsChoiceAfter (C.size choice.now) (C.Good choice.now) after.now)) }
 {
     let mut numbers = Numbers::new();
     if go_on(choice, Some(after), &mut numbers) {
@@ -47,8 +50,11 @@ fn go_on<C: Choice>(choice: &C, bound: Option<&[u32]>, numbers: &mut Numbers) ->
     requires room { C.size choice.now ≤ 28 }
     requires within { array_vec_len numbers.old ≤ C.size choice.now }
     requires each_fits { EachFits (C.Fits choice.now) [] numbers.old.items }
-    ensures found { OnTrue result (GoesOnBest (C.size choice.now) (C.Good choice.now) (option_copied bound.entry) numbers.old.items numbers.new.items) }
-    ensures none { OnFalse result (IsNone (GoesOn (C.size choice.now) (C.Good choice.now) (option_copied bound.entry) numbers.old.items)) }
+    ensures found { OnTrue result (GoesOnBest (C.size choice.now) (C.Good choice.now)
+        (option_copied bound.entry) numbers.old.items numbers.new.items) }
+    ensures none { OnFalse result
+        (IsNone (GoesOn (C.size choice.now) (C.Good choice.now) (option_copied bound.entry)
+        numbers.old.items)) }
     ensures same { OnFalse result (numbers.new.items ≡ numbers.old.items) }
 {
     if numbers.len() == choice.size() {
@@ -79,7 +85,8 @@ fn first_of(bound: Option<&[u32]>) -> u32
 // What bounds the numbers behind x.
 fn behind(bound: Option<&[u32]>, x: u32) -> Option<&[u32]>
     requires { floor (option_copied bound) ≤ x }
-    ensures { (rest : List ℕ) → IsAbove (option_copied bound.entry) (x ∷ rest) ↔ IsAbove (option_copied result) rest }
+    ensures { (rest : List ℕ)
+        → IsAbove (option_copied bound.entry) (x ∷ rest) ↔ IsAbove (option_copied result) rest }
 {
     match bound {
         Some([first, rest @ ..]) if *first == x => Some(rest),

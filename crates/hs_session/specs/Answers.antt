@@ -14,7 +14,8 @@ use Rattle.hs_session.specs.declared.report.Word.TheVariants as word
 abbrev pub rule_named : RuleSet → List ℕ → Option ℕ
 rule_named rules name = position (λ rule. same_text rule.name name) rules.rules
 
--- How far a call has come: what it called was applied, it found no match, or it has still to be tried.
+-- How far a call has come: what it called was applied, it found no match, or it has still to be
+-- tried.
 pub data Course : Type 0 where
   done : Course
   failed : Course

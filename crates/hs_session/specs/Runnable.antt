@@ -16,7 +16,8 @@ pub record HasRoomFor (g : Graph) (rule : Rule) : Type 0 where
   pub edges : g.next_edge + length rule.shape.edges ≤ MAX_NUMBERS
   pub names : g.next_name + length rule.shape.nodes ≤ 2 ^ 63
 
--- A rule without parameters that only adds; few enough elements for a search, and room for what it makes.
+-- A rule without parameters that only adds; few enough elements for a search, and room for what it
+-- makes.
 pub record IsRunnable (g : Graph) (rule : Rule) : Type 0 where
   pub no_params : rule.params ≡ []
   pub only_adds : OnlyAdds rule

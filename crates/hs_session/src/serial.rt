@@ -66,7 +66,8 @@ pub fn run_serial(
 
 /// The report of a run in which nothing is asked for: the graph as it was.
 pub fn run_nothing(alloc: Global, graph: ListGraph) -> Report
-    ensures { (rules : RuleSet) → arc_value graph.meta ≡ meta_of rules → IsSerialReport rules graph.graph [] result }
+    ensures { (rules : RuleSet) → arc_value graph.meta ≡ meta_of rules
+        → IsSerialReport rules graph.graph [] result }
 {
     Report {
         journal: List::new(alloc),
@@ -108,7 +109,14 @@ fn one<T: Drop>(alloc: Global, item: T) -> Result<List<T>, AllocError>
 
 /// The reply to the first request of the first session, whose attempt is the journal's first entry.
 fn reply_of(alloc: Global, outcome: &Outcome) -> Result<Reply, AllocError>
-    ensures { IfOk result (λ reply. reply ≡ record { session = 0; request = 0; word = word_for outcome.now; places = 0 ∷ []; outs = [] }) }
+    ensures { IfOk result
+        (λ reply. reply ≡ record {
+          session = 0;
+          request = 0;
+          word = word_for outcome.now;
+          places = 0 ∷ [];
+          outs = [];
+        }) }
 {
     Ok(Reply {
         session: 0,
@@ -133,9 +141,11 @@ fn attempt(alloc: Global, meta: &Meta, graph: Graph, rule: &Rule) -> Result<Atte
     requires form { IsRule meta.now rule.now }
     requires typed { IsTyped meta.now graph }
     requires runnable { IsRunnable graph rule.now }
-    ensures lawful { IfOk result (λ a. (asked : Cause) → OutcomeAsks meta.now graph rule.now no_args a.outcome asked) }
+    ensures lawful { IfOk result
+        (λ a. (asked : Cause) → OutcomeAsks meta.now graph rule.now no_args a.outcome asked) }
     ensures least { IfOk result (λ a. IsLeastOutcome meta.now graph rule.now no_args a.outcome) }
-    ensures after { IfOk result (λ a. a.graph ≡ after_outcome meta.now graph rule.now no_args a.outcome) }
+    ensures after { IfOk result
+        (λ a. a.graph ≡ after_outcome meta.now graph rule.now no_args a.outcome) }
 {
     match first_match(alloc, meta, &graph, rule)? {
         Some(found) => applied(alloc, meta, graph, rule, found),
@@ -157,9 +167,11 @@ fn applied(
     requires typed { IsTyped meta.now graph }
     requires runnable { IsRunnable graph rule.now }
     requires least { IsLeast meta.now graph rule.now no_args found }
-    ensures lawful { IfOk result (λ a. (asked : Cause) → OutcomeAsks meta.now graph rule.now no_args a.outcome asked) }
+    ensures lawful { IfOk result
+        (λ a. (asked : Cause) → OutcomeAsks meta.now graph rule.now no_args a.outcome asked) }
     ensures least { IfOk result (λ a. IsLeastOutcome meta.now graph rule.now no_args a.outcome) }
-    ensures after { IfOk result (λ a. a.graph ≡ after_outcome meta.now graph rule.now no_args a.outcome) }
+    ensures after { IfOk result
+        (λ a. a.graph ≡ after_outcome meta.now graph rule.now no_args a.outcome) }
 {
     // The laws on plans are what `install` asks.
     meta.is_metamodel();

@@ -10,7 +10,14 @@ use Rattle.hs_session.specs.LawfulReport.{Asked}
 
 -- The first request of the first session: it opens an account for the client c1.
 abbrev pub opening : Request
-opening = record { call = codes "rule"; args = open_args; fuel = 1000; group = false; some_fuel = lit≤ tt; fuel_bound = lit≤ tt }
+opening = record {
+  call = codes "rule";
+  args = open_args;
+  fuel = 1000;
+  group = false;
+  some_fuel = lit≤ tt;
+  fuel_bound = lit≤ tt;
+}
 
 abbrev pub first_asked : Asked
 first_asked = record { session = 0; number = 0; request = opening }
@@ -21,4 +28,10 @@ new_account = record { parameter = codes "a"; object = codes "#0" }
 
 -- A reply to the first request.
 abbrev pub reply : Word → List ℕ → List Out → Reply
-reply word places outs = record { session = 0; request = 0; word = word; places = places; outs = outs }
+reply word places outs = record {
+  session = 0;
+  request = 0;
+  word = word;
+  places = places;
+  outs = outs;
+}

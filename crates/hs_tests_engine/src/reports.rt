@@ -11,17 +11,20 @@ ghost use Rattle.hs_tests_engine.specs.Requests.{first_asked, new_account, openi
 
 /// The reply to a request that opened an account, and three that aren't: one with another word, one
 /// with another place, one that leaves the out value out. And reports that aren't lawful, since a
-/// request has no reply or an entry was not asked for, or not serial, since entries stand in another
-/// order.
+/// request has no reply or an entry was not asked for, or not serial, since entries stand in
+/// another order.
 pub fn reports_told()
     ensures numbers { all_asked ((opening ∷ []) ∷ []) ≡ first_asked ∷ [] }
     ensures entries { entries_of first_asked (opens ∷ adds ∷ []) ≡ (0, opens) ∷ [] }
     ensures answered { (set : RuleSet) → set.rules ≡ open_account ∷ add ∷ []
-        → IsAnswer set just_client (opens ∷ adds ∷ []) first_asked (reply word.Ok (0 ∷ []) (new_account ∷ [])) }
+        → IsAnswer set just_client (opens ∷ adds ∷ []) first_asked
+        (reply word.Ok (0 ∷ []) (new_account ∷ [])) }
     ensures memory { (set : RuleSet) → set.rules ≡ open_account ∷ add ∷ []
         → IsAnswer set just_client (opens ∷ adds ∷ []) first_asked (reply word.Memory (0 ∷ []) []) }
-    ensures other_word { (set : RuleSet) → IsAnswer set just_client (opens ∷ adds ∷ []) first_asked (reply word.NoMatch (0 ∷ []) []) → ⊥ }
-    ensures other_place { (set : RuleSet) → IsAnswer set just_client (opens ∷ adds ∷ []) first_asked (reply word.Ok (1 ∷ []) (new_account ∷ [])) → ⊥ }
+    ensures other_word { (set : RuleSet) → IsAnswer set just_client (opens ∷ adds ∷ []) first_asked
+        (reply word.NoMatch (0 ∷ []) []) → ⊥ }
+    ensures other_place { (set : RuleSet) → IsAnswer set just_client (opens ∷ adds ∷ []) first_asked
+        (reply word.Ok (1 ∷ []) (new_account ∷ [])) → ⊥ }
     ensures no_out { (set : RuleSet) → set.rules ≡ open_account ∷ add ∷ []
         → IsAnswer set just_client (opens ∷ adds ∷ []) first_asked (reply word.Ok (0 ∷ []) []) → ⊥ }
     ensures no_reply { (set : RuleSet) (report : Report) → report.replies ≡ []

@@ -1,5 +1,5 @@
-//! Tests of public calls of the readers of bundles: reachability, metamodels, graphs, and their JSON
-//! values. They are here so that the libraries are proved once.
+//! Tests of public calls of the readers of bundles: reachability, metamodels, graphs, and their
+//! JSON values. They are here so that the libraries are proved once.
 #![tactic(auto)]
 
 mod model;

@@ -5,7 +5,8 @@ use hs_types::Meta;
 use serde_json::Value;
 use std::alloc::Global;
 
-/// `Client` and `Account` below the abstract `Named`, which has `name` and `link` to anything. A client
+/// `Client` and `Account` below the abstract `Named`, which has `name` and `link` to anything. A
+/// client
 /// holds `accounts`; an account has `balance`, `total`, `open` and an `owner`.
 #[cfg(test)]
 pub const BANK: &str =

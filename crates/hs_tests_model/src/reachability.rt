@@ -5,8 +5,8 @@ use hs_reach::{components, on_cycles, targets_are_vertices};
 use std::alloc::{AllocError, Global};
 use std::test::Fail;
 
-/// The graph that is written vertex by vertex: `1,2;2;` is of three vertices, of which vertex 0 leads to
-/// vertices 1 and 2, and vertex 1 to vertex 2.
+/// The graph that is written vertex by vertex: `1,2;2;` is of three vertices, of which vertex 0
+/// leads to vertices 1 and 2, and vertex 1 to vertex 2.
 fn graph(alloc: Global, text: &str) -> Result<List<List<usize>>, AllocError> {
     let mut made = List::new(alloc);
     for row in text.split(';') {
@@ -81,8 +81,8 @@ fn places_that_reach_each_other_have_a_mark_in_common(rt: HostRuntime) -> Result
     Ok(())
 }
 
-/// A chain in which each vertex leads to the next one and to the one after that, and the last one to
-/// the first where the chain is closed.
+/// A chain in which each vertex leads to the next one and to the one after that, and the last one
+/// to the first where the chain is closed.
 fn chain(alloc: Global, count: usize, is_closed: bool) -> Result<List<List<usize>>, AllocError> {
     let mut made = List::new(alloc);
     for vertex in 0..count {

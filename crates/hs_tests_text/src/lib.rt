@@ -1,5 +1,5 @@
-//! Tests of public calls of the readers of rule texts: tokens, syntax, expressions, faults, and what a
-//! text means. They are here so that the libraries are proved once.
+//! Tests of public calls of the readers of rule texts: tokens, syntax, expressions, faults, and
+//! what a text means. They are here so that the libraries are proved once.
 #![tactic(auto)]
 
 #[cfg(test)]

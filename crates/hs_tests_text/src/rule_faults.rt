@@ -8,9 +8,9 @@ use hs_types::Meta;
 use std::alloc::{AllocError, Global};
 use std::test::Fail;
 
-/// Client and Account, both below the abstract class Thing, and the abstract class Ghost, which none
-/// is below. A thing has a name, a client accounts, and an account a balance, whether it is open, an
-/// owner, and what it is about.
+/// Client and Account, both below the abstract class Thing, and the abstract class Ghost, which
+/// none is below. A thing has a name, a client accounts, and an account a balance, whether it is
+/// open, an owner, and what it is about.
 pub const MODEL: &str =
     r#"{"classes":[{"name":"Thing","abstract":true,"attributes":[{"name":"name","type":"EString"}]},{"name":"Client","supers":["Thing"],"references":[{"name":"accounts","target":"Account","upper":-1}]},{"name":"Account","supers":["Thing"],"attributes":[{"name":"balance","type":"EInt"},{"name":"open","type":"EBoolean"}],"references":[{"name":"owner","target":"Client","upper":-1},{"name":"about","target":"Thing","upper":-1}]},{"name":"Ghost","abstract":true}]}"#;
 

@@ -1,4 +1,5 @@
--- How an expression is written from its end to its beginning, by its pieces from the last to the first.
+-- How an expression is written from its end to its beginning, by its pieces from the last to the
+-- first.
 -- The tasks are what is still to be written, the last one first.
 use Rattle.std.specs.Prelude.{ℕ, Bool, true, false, List, [], ◌∷◌, Option, Some, None, codes}
 use Rattle.hs_expr.specs.declared.Piece.{Piece}
@@ -35,9 +36,12 @@ paren_texts false texts = texts
 
 -- The tasks and the texts after the last piece of an expression.
 abbrev pub tasks_after : Piece → Bool → List Task → List Task
-tasks_after (piece.Not span) parens tasks = Expr true ∷ Text (piece_text (piece.Not span)) ∷ paren_tasks parens tasks
-tasks_after (piece.Minus span) parens tasks = Expr true ∷ Text (piece_text (piece.Minus span)) ∷ paren_tasks parens tasks
-tasks_after (piece.Binary sign span) parens tasks = Expr true ∷ Text (piece_text (piece.Binary sign span)) ∷ Expr true ∷ paren_tasks parens tasks
+tasks_after (piece.Not span) parens tasks =
+    Expr true ∷ Text (piece_text (piece.Not span)) ∷ paren_tasks parens tasks
+tasks_after (piece.Minus span) parens tasks =
+    Expr true ∷ Text (piece_text (piece.Minus span)) ∷ paren_tasks parens tasks
+tasks_after (piece.Binary sign span) parens tasks =
+    Expr true ∷ Text (piece_text (piece.Binary sign span)) ∷ Expr true ∷ paren_tasks parens tasks
 tasks_after _ parens tasks = tasks
 
 abbrev pub texts_after : Piece → Bool → List (List ℕ) → List (List ℕ)

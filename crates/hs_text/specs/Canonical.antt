@@ -64,8 +64,8 @@ sign_text sign.Plus = codes "+"
 sign_text sign.Minus = codes "-"
 sign_text sign.Times = codes "*"
 
--- A piece by itself, with the spaces that it has: one on either side of a sign between two operands, one
--- after `not`, none after a minus sign of one operand.
+-- A piece by itself, with the spaces that it has: one on either side of a sign between two
+-- operands, one after `not`, none after a minus sign of one operand.
 abbrev pub piece_text : Piece → List ℕ
 piece_text (piece.Int value span) = signed_decimal value
 piece_text (piece.Text value span) = quoted_text value
@@ -88,7 +88,8 @@ abbrev pub tree_text : Tree → List ℕ
 tree_text (Leaf p) = piece_text p
 tree_text (Not span a) = piece_text (piece.Not span) ++ operand a (tree_text a)
 tree_text (Minus span a) = piece_text (piece.Minus span) ++ operand a (tree_text a)
-tree_text (Binary sign span a b) = operand a (tree_text a) ++ piece_text (piece.Binary sign span) ++ operand b (tree_text b)
+tree_text (Binary sign span a b) =
+    operand a (tree_text a) ++ piece_text (piece.Binary sign span) ++ operand b (tree_text b)
 
 abbrev pub expr_text : NameExpr → List ℕ
 expr_text expr = tree_text (expr_tree expr)
@@ -104,7 +105,8 @@ direction_text direction.Out = codes "out"
 
 -- A parameter: its direction, its name and its kind.
 abbrev pub param_text : Param → List ℕ
-param_text param = direction_text param.direction ++ codes " " ++ param.name.text ++ codes ": " ++ param.kind.text
+param_text param =
+    direction_text param.direction ++ codes " " ++ param.name.text ++ codes ": " ++ param.kind.text
 
 abbrev pub params_text : List Param → List ℕ
 params_text params = codes "(" ++ commas (map param_text params) ++ codes ")"
@@ -117,12 +119,14 @@ mark_text mark.Delete = codes "delete"
 -- A node with its class, or an edge with its ends and its reference.
 abbrev pub element_text : Element → List ℕ
 element_text (element.Node name class) = codes "node " ++ name.text ++ codes ": " ++ class.text
-element_text (element.Edge source target reference) = codes "edge " ++ source.text ++ codes " -> " ++ target.text ++ codes ": " ++ reference.text
+element_text (element.Edge source target reference) =
+    codes "edge " ++ source.text ++ codes " -> " ++ target.text ++ codes ": " ++ reference.text
 
 -- A simple item, without its semicolon.
 abbrev pub simple_text : Simple → List ℕ
 simple_text (simple.Marked mark element) = mark_text mark ++ codes " " ++ element_text element
-simple_text (simple.Set node attribute value) = codes "set " ++ node.text ++ codes "." ++ attribute.text ++ codes " = " ++ expr_text value
+simple_text (simple.Set node attribute value) =
+    codes "set " ++ node.text ++ codes "." ++ attribute.text ++ codes " = " ++ expr_text value
 simple_text (simple.Where word test) = codes "where " ++ expr_text test
 
 -- A line of a block, at this margin: two spaces a level.
@@ -150,7 +154,8 @@ simple_line simple = line two_levels (simple_text simple)
 abbrev pub item_text : Item → List ℕ
 item_text (item.Simple simple) = line one_level (simple_text simple)
 item_text (item.Forbid elements) = block one_level (codes "forbid") (flat_map element_line elements)
-item_text (item.Require elements) = block one_level (codes "require") (flat_map element_line elements)
+item_text (item.Require elements) =
+    block one_level (codes "require") (flat_map element_line elements)
 item_text (item.Multi simples) = block one_level (codes "multi") (flat_map simple_line simples)
 
 abbrev pub minus_text : Bool → List ℕ
@@ -199,16 +204,22 @@ abbrev pub body_lines : Body → List ℕ
 body_lines (body.Sequential calls) = flat_map (call_line []) calls
 body_lines (body.Independent calls) = flat_map (call_line []) calls
 body_lines (body.Priority calls) = flat_map (call_line []) calls
-body_lines (body.Conditional test chosen otherwise) = call_line (codes "if ") test ++ call_line (codes "then ") chosen ++ else_line otherwise
+body_lines (body.Conditional test chosen otherwise) =
+    call_line (codes "if ") test ++ call_line (codes "then ") chosen ++ else_line otherwise
 body_lines (body.Loop call) = call_line [] call
 body_lines (body.Iterated count call) = call_line [] call
 
 -- A rule or a unit.
 abbrev pub definition_text : Definition → List ℕ
-definition_text (definition.Rule rule) = block [] (codes "rule " ++ rule.name.text ++ params_text rule.params) (flat_map item_text rule.items)
-definition_text (definition.Unit unit) = block [] (codes "unit " ++ unit.name.text ++ params_text unit.params ++ codes " " ++ body_kind unit.body) (body_lines unit.body)
+definition_text (definition.Rule rule) =
+    block [] (codes "rule " ++ rule.name.text ++ params_text rule.params)
+    (flat_map item_text rule.items)
+definition_text (definition.Unit unit) =
+    block [] (codes "unit " ++ unit.name.text ++ params_text unit.params ++ codes " "
+    ++ body_kind unit.body) (body_lines unit.body)
 
 -- One definition after another, an empty line between two.
 abbrev pub canonical_text : List Definition → List ℕ
 canonical_text [] = []
-canonical_text (definition ∷ definitions) = definition_text definition ++ flat_map (λ next. codes "\n" ++ definition_text next) definitions
+canonical_text (definition ∷ definitions) =
+    definition_text definition ++ flat_map (λ next. codes "\n" ++ definition_text next) definitions

@@ -1,5 +1,5 @@
--- The grammar as an LL(1) table: productions, the one that a part takes at a token, and what a text of
--- symbols derives.
+-- The grammar as an LL(1) table: productions, the one that a part takes at a token, and what a text
+-- of symbols derives.
 use Rattle.std.specs.Prelude.{ℕ, ◌≡◌, ◌↔◌, Bool, true, false, ◌||◌, ◌&&◌, List, [], ◌∷◌, ◌++◌, Option, Some, None, is_some}
 use Rattle.hs_tokens.specs.declared.token.Kind.{Kind}
 use Rattle.hs_tokens.specs.declared.token.Kind.TheVariants as kind
@@ -92,34 +92,55 @@ part_of production.ValueMinus = part.Value
 abbrev pub right_side : Production → List Symbol
 right_side production.TextMore = Sub part.Definition ∷ Sub part.Text ∷ []
 right_side production.TextEnd = []
-right_side production.RuleDefinition = Skip kind.Rule ∷ Keep (term.Just kind.Name) ∷ Sub part.Params ∷ Skip kind.LeftBrace ∷ Sub part.Items ∷ Skip kind.RightBrace ∷ Act action.Rule ∷ []
-right_side production.UnitDefinition = Skip kind.Unit ∷ Keep (term.Just kind.Name) ∷ Sub part.Params ∷ Sub part.Body ∷ []
+right_side production.RuleDefinition =
+    Skip kind.Rule ∷ Keep (term.Just kind.Name) ∷ Sub part.Params ∷ Skip kind.LeftBrace
+    ∷ Sub part.Items ∷ Skip kind.RightBrace ∷ Act action.Rule ∷ []
+right_side production.UnitDefinition =
+    Skip kind.Unit ∷ Keep (term.Just kind.Name) ∷ Sub part.Params ∷ Sub part.Body ∷ []
 right_side production.Params = Skip kind.LeftParen ∷ Sub part.ParamList ∷ Skip kind.RightParen ∷ []
 right_side production.ParamFirst = Sub part.Param ∷ Sub part.ParamsTail ∷ []
 right_side production.ParamNone = []
 right_side production.ParamNext = Skip kind.Comma ∷ Sub part.Param ∷ Sub part.ParamsTail ∷ []
 right_side production.ParamLast = []
-right_side production.Param = Keep term.Direction ∷ Keep (term.Just kind.Name) ∷ Skip kind.Colon ∷ Keep term.Word ∷ Act action.Param ∷ []
+right_side production.Param =
+    Keep term.Direction ∷ Keep (term.Just kind.Name) ∷ Skip kind.Colon ∷ Keep term.Word
+    ∷ Act action.Param ∷ []
 right_side production.ItemMore = Sub part.Item ∷ Sub part.Items ∷ []
 right_side production.ItemEnd = []
 right_side production.ItemSimple = Sub part.Simple ∷ Act action.Plain ∷ []
-right_side production.ItemForbid = Skip kind.Forbid ∷ Skip kind.LeftBrace ∷ Sub part.Elements ∷ Skip kind.RightBrace ∷ Act action.Forbid ∷ []
-right_side production.ItemRequire = Skip kind.Require ∷ Skip kind.LeftBrace ∷ Sub part.Elements ∷ Skip kind.RightBrace ∷ Act action.Require ∷ []
-right_side production.ItemMulti = Skip kind.Multi ∷ Skip kind.LeftBrace ∷ Sub part.Simples ∷ Skip kind.RightBrace ∷ Act action.Multi ∷ []
+right_side production.ItemForbid =
+    Skip kind.Forbid ∷ Skip kind.LeftBrace ∷ Sub part.Elements ∷ Skip kind.RightBrace
+    ∷ Act action.Forbid ∷ []
+right_side production.ItemRequire =
+    Skip kind.Require ∷ Skip kind.LeftBrace ∷ Sub part.Elements ∷ Skip kind.RightBrace
+    ∷ Act action.Require ∷ []
+right_side production.ItemMulti =
+    Skip kind.Multi ∷ Skip kind.LeftBrace ∷ Sub part.Simples ∷ Skip kind.RightBrace
+    ∷ Act action.Multi ∷ []
 right_side production.ElementMore = Sub part.Element ∷ Skip kind.Semicolon ∷ Sub part.Elements ∷ []
 right_side production.ElementEnd = []
 right_side production.SimpleMore = Sub part.Simple ∷ Sub part.Simples ∷ []
 right_side production.SimpleEnd = []
-right_side production.SimpleElement = Keep term.Mark ∷ Sub part.Element ∷ Skip kind.Semicolon ∷ Act action.Marked ∷ []
-right_side production.SimpleSet = Skip kind.Set ∷ Keep (term.Just kind.Name) ∷ Skip kind.Dot ∷ Keep term.Word ∷ Skip kind.Assign ∷ Sub part.Expr ∷ Skip kind.Semicolon ∷ Act action.Set ∷ []
-right_side production.SimpleWhere = Keep (term.Just kind.Where) ∷ Sub part.Expr ∷ Skip kind.Semicolon ∷ Act action.Where ∷ []
-right_side production.ElementNode = Skip kind.Node ∷ Keep (term.Just kind.Name) ∷ Skip kind.Colon ∷ Keep term.Word ∷ Act action.Node ∷ []
-right_side production.ElementEdge = Skip kind.Edge ∷ Keep (term.Just kind.Name) ∷ Skip kind.Arrow ∷ Keep (term.Just kind.Name) ∷ Skip kind.Colon ∷ Keep term.Word ∷ Act action.Edge ∷ []
+right_side production.SimpleElement =
+    Keep term.Mark ∷ Sub part.Element ∷ Skip kind.Semicolon ∷ Act action.Marked ∷ []
+right_side production.SimpleSet =
+    Skip kind.Set ∷ Keep (term.Just kind.Name) ∷ Skip kind.Dot ∷ Keep term.Word ∷ Skip kind.Assign
+    ∷ Sub part.Expr ∷ Skip kind.Semicolon ∷ Act action.Set ∷ []
+right_side production.SimpleWhere =
+    Keep (term.Just kind.Where) ∷ Sub part.Expr ∷ Skip kind.Semicolon ∷ Act action.Where ∷ []
+right_side production.ElementNode =
+    Skip kind.Node ∷ Keep (term.Just kind.Name) ∷ Skip kind.Colon ∷ Keep term.Word ∷ Act action.Node
+    ∷ []
+right_side production.ElementEdge =
+    Skip kind.Edge ∷ Keep (term.Just kind.Name) ∷ Skip kind.Arrow ∷ Keep (term.Just kind.Name)
+    ∷ Skip kind.Colon ∷ Keep term.Word ∷ Act action.Edge ∷ []
 right_side production.Expr = Sub part.Conj ∷ Sub part.OrTail ∷ []
-right_side production.OrMore = Keep (term.Just kind.Or) ∷ Sub part.Conj ∷ Act action.Binary ∷ Sub part.OrTail ∷ []
+right_side production.OrMore =
+    Keep (term.Just kind.Or) ∷ Sub part.Conj ∷ Act action.Binary ∷ Sub part.OrTail ∷ []
 right_side production.OrEnd = []
 right_side production.Conj = Sub part.Neg ∷ Sub part.AndTail ∷ []
-right_side production.AndMore = Keep (term.Just kind.And) ∷ Sub part.Neg ∷ Act action.Binary ∷ Sub part.AndTail ∷ []
+right_side production.AndMore =
+    Keep (term.Just kind.And) ∷ Sub part.Neg ∷ Act action.Binary ∷ Sub part.AndTail ∷ []
 right_side production.AndEnd = []
 right_side production.NegNot = Keep (term.Just kind.Not) ∷ Sub part.Neg ∷ Act action.Not ∷ []
 right_side production.NegCmp = Sub part.Cmp ∷ []
@@ -127,35 +148,52 @@ right_side production.Cmp = Sub part.Sum ∷ Sub part.CmpTail ∷ []
 right_side production.CmpMore = Keep term.Comparison ∷ Sub part.Sum ∷ Act action.Binary ∷ []
 right_side production.CmpEnd = []
 right_side production.Sum = Sub part.Prod ∷ Sub part.SumTail ∷ []
-right_side production.SumMore = Keep term.Addition ∷ Sub part.Prod ∷ Act action.Binary ∷ Sub part.SumTail ∷ []
+right_side production.SumMore =
+    Keep term.Addition ∷ Sub part.Prod ∷ Act action.Binary ∷ Sub part.SumTail ∷ []
 right_side production.SumEnd = []
 right_side production.Prod = Sub part.Fact ∷ Sub part.ProdTail ∷ []
-right_side production.ProdMore = Keep (term.Just kind.Times) ∷ Sub part.Fact ∷ Act action.Binary ∷ Sub part.ProdTail ∷ []
+right_side production.ProdMore =
+    Keep (term.Just kind.Times) ∷ Sub part.Fact ∷ Act action.Binary ∷ Sub part.ProdTail ∷ []
 right_side production.ProdEnd = []
 right_side production.FactLiteral = Keep term.Literal ∷ Act action.Literal ∷ []
 right_side production.FactName = Keep (term.Just kind.Name) ∷ Sub part.Slot ∷ []
 right_side production.FactParens = Skip kind.LeftParen ∷ Sub part.Expr ∷ Skip kind.RightParen ∷ []
-right_side production.FactMinus = Keep (term.Just kind.Minus) ∷ Sub part.Fact ∷ Act action.Minus ∷ []
+right_side production.FactMinus =
+    Keep (term.Just kind.Minus) ∷ Sub part.Fact ∷ Act action.Minus ∷ []
 right_side production.SlotDot = Skip kind.Dot ∷ Keep term.Word ∷ Act action.Slot ∷ []
 right_side production.SlotNone = Act action.Name ∷ []
-right_side production.BodyListed = Keep term.Order ∷ Skip kind.LeftBrace ∷ Sub part.Calls ∷ Skip kind.RightBrace ∷ Act action.Listed ∷ []
-right_side production.BodyConditional = Skip kind.Conditional ∷ Skip kind.LeftBrace ∷ Skip kind.If ∷ Sub part.Call ∷ Skip kind.Semicolon ∷ Skip kind.Then ∷ Sub part.Call ∷ Skip kind.Semicolon ∷ Sub part.Else ∷ []
-right_side production.BodyLoop = Skip kind.Loop ∷ Skip kind.LeftBrace ∷ Sub part.Call ∷ Skip kind.Semicolon ∷ Skip kind.RightBrace ∷ Act action.Loop ∷ []
-right_side production.BodyIterated = Skip kind.Iterated ∷ Keep term.Count ∷ Skip kind.LeftBrace ∷ Sub part.Call ∷ Skip kind.Semicolon ∷ Skip kind.RightBrace ∷ Act action.Iterated ∷ []
-right_side production.ElseSome = Skip kind.Else ∷ Sub part.Call ∷ Skip kind.Semicolon ∷ Skip kind.RightBrace ∷ Act action.IfElse ∷ []
+right_side production.BodyListed =
+    Keep term.Order ∷ Skip kind.LeftBrace ∷ Sub part.Calls ∷ Skip kind.RightBrace
+    ∷ Act action.Listed ∷ []
+right_side production.BodyConditional =
+    Skip kind.Conditional ∷ Skip kind.LeftBrace ∷ Skip kind.If ∷ Sub part.Call ∷ Skip kind.Semicolon
+    ∷ Skip kind.Then ∷ Sub part.Call ∷ Skip kind.Semicolon ∷ Sub part.Else ∷ []
+right_side production.BodyLoop =
+    Skip kind.Loop ∷ Skip kind.LeftBrace ∷ Sub part.Call ∷ Skip kind.Semicolon
+    ∷ Skip kind.RightBrace ∷ Act action.Loop ∷ []
+right_side production.BodyIterated =
+    Skip kind.Iterated ∷ Keep term.Count ∷ Skip kind.LeftBrace ∷ Sub part.Call ∷ Skip kind.Semicolon
+    ∷ Skip kind.RightBrace ∷ Act action.Iterated ∷ []
+right_side production.ElseSome =
+    Skip kind.Else ∷ Sub part.Call ∷ Skip kind.Semicolon ∷ Skip kind.RightBrace ∷ Act action.IfElse
+    ∷ []
 right_side production.ElseNone = Skip kind.RightBrace ∷ Act action.If ∷ []
 right_side production.CallMore = Sub part.Call ∷ Skip kind.Semicolon ∷ Sub part.Calls ∷ []
 right_side production.CallEnd = []
-right_side production.Call = Keep (term.Just kind.Name) ∷ Skip kind.LeftParen ∷ Sub part.BindList ∷ Skip kind.RightParen ∷ Act action.Call ∷ []
+right_side production.Call =
+    Keep (term.Just kind.Name) ∷ Skip kind.LeftParen ∷ Sub part.BindList ∷ Skip kind.RightParen
+    ∷ Act action.Call ∷ []
 right_side production.BindFirst = Sub part.Bind ∷ Sub part.BindsTail ∷ []
 right_side production.BindNone = []
 right_side production.BindNext = Skip kind.Comma ∷ Sub part.Bind ∷ Sub part.BindsTail ∷ []
 right_side production.BindLast = []
 right_side production.Bind = Keep (term.Just kind.Name) ∷ Sub part.Bound ∷ []
 right_side production.BoundValue = Skip kind.Assign ∷ Sub part.Value ∷ []
-right_side production.BoundVariable = Skip kind.Greater ∷ Keep (term.Just kind.Name) ∷ Act action.Variable ∷ []
+right_side production.BoundVariable =
+    Skip kind.Greater ∷ Keep (term.Just kind.Name) ∷ Act action.Variable ∷ []
 right_side production.ValueAtom = Keep term.Atom ∷ Act action.Atom ∷ []
-right_side production.ValueMinus = Skip kind.Minus ∷ Keep (term.Just kind.Int) ∷ Act action.MinusAtom ∷ []
+right_side production.ValueMinus =
+    Skip kind.Minus ∷ Keep (term.Just kind.Int) ∷ Act action.MinusAtom ∷ []
 
 -- The production that begins with a token of this kind.
 abbrev pub choice_of : Part → Kind → Option Production
@@ -317,10 +355,15 @@ production_of n k = choice_or (choice_of n k) (empty_of n)
 -- characters are those of the whole text.
 pub data Derives (source : List ℕ) : List Symbol → List Token → Builder → Builder → Type 0 where
   done : {b : Builder} → Derives source [] [] b b
-  skip : {k : Kind} {t : Token} {ss : List Symbol} {ts : List Token} {b f : Builder} → same k t.kind ≡ true → Derives source ss ts b f → Derives source (Skip k ∷ ss) (t ∷ ts) b f
-  keep : {w : Term} {t : Token} {ss : List Symbol} {ts : List Token} {b f : Builder} → matches w t.kind ≡ true → Derives source ss ts (with_token t b) f → Derives source (Keep w ∷ ss) (t ∷ ts) b f
-  act : {a : Action} {ss : List Symbol} {ts : List Token} {b f : Builder} → Derives source ss ts (builder_after source a b) f → Derives source (Act a ∷ ss) ts b f
-  by : {n : Part} {ss : List Symbol} {ts : List Token} {b f : Builder} (p : Production) → part_of p ≡ n → Derives source (right_side p ++ ss) ts b f → Derives source (Sub n ∷ ss) ts b f
+  skip : {k : Kind} {t : Token} {ss : List Symbol} {ts : List Token} {b f : Builder}
+      → same k t.kind ≡ true → Derives source ss ts b f → Derives source (Skip k ∷ ss) (t ∷ ts) b f
+  keep : {w : Term} {t : Token} {ss : List Symbol} {ts : List Token} {b f : Builder}
+      → matches w t.kind ≡ true → Derives source ss ts (with_token t b) f
+      → Derives source (Keep w ∷ ss) (t ∷ ts) b f
+  act : {a : Action} {ss : List Symbol} {ts : List Token} {b f : Builder}
+      → Derives source ss ts (builder_after source a b) f → Derives source (Act a ∷ ss) ts b f
+  by : {n : Part} {ss : List Symbol} {ts : List Token} {b f : Builder} (p : Production) → part_of p
+      ≡ n → Derives source (right_side p ++ ss) ts b f → Derives source (Sub n ∷ ss) ts b f
 
 -- Whether a text of these symbols may begin with a token of this kind.
 abbrev pub begins : List Symbol → Kind → Bool
@@ -484,9 +527,11 @@ Fine (Act a ∷ ss) = Fine ss
 Fine (Sub n ∷ ss) = ((k : Kind) → begins ss k ≡ true → follows n k ≡ true) × Fine ss
 
 -- The token is taken: what follows it in a text of the old symbols is a text of the new ones.
-pub record TakesToken (source : List ℕ) (old : List Symbol) (b : Builder) (t : Token) (new : List Symbol) (c : Builder) : Type 0 where
+pub record TakesToken (source : List ℕ) (old : List Symbol) (b : Builder) (t : Token)
+    (new : List Symbol) (c : Builder) : Type 0 where
   pub fine : Fine new
-  pub same_texts : (u : List Token) (f : Builder) → Derives source old (t ∷ u) b f ↔ Derives source new u c f
+  pub same_texts : (u : List Token) (f : Builder)
+      → Derives source old (t ∷ u) b f ↔ Derives source new u c f
 
 -- No text of the symbols begins with the token.
 abbrev pub RefusesToken : List ℕ → List Symbol → Builder → Token → Type 0

@@ -39,18 +39,22 @@ pub record IsUnfinished (source : List ℕ) (ts : List Token) : Type 0 where
 -- Why tokens aren't a text, by the kind of the fault: of order at a token, or an end before the
 -- grammar's, which is reported at the position where the text ends.
 abbrev pub IsGrammarFaultBy : FaultKind → List ℕ → List Token → Position → TextFault → Type 0
-IsGrammarFaultBy fault.Order source ts end f = (t : Token) × IsFirstWrong source ts t × (f.line ≡ t.span.line) × (f.column ≡ t.span.column)
-IsGrammarFaultBy fault.End source ts end f = IsUnfinished source ts × (f.line ≡ end.line) × (f.column ≡ end.column)
+IsGrammarFaultBy fault.Order source ts end f =
+    (t : Token) × IsFirstWrong source ts t × (f.line ≡ t.span.line) × (f.column ≡ t.span.column)
+IsGrammarFaultBy fault.End source ts end f =
+    IsUnfinished source ts × (f.line ≡ end.line) × (f.column ≡ end.column)
 IsGrammarFaultBy kind source ts end f = ⊥
 
 abbrev pub IsGrammarFault : List ℕ → List Token → Position → TextFault → Type 0
 IsGrammarFault source ts end f = IsGrammarFaultBy f.kind source ts end f
 
--- Why characters aren't a text, by the kind of the fault: a wrong token, or, where all are tokens, a
--- fault of the grammar.
+-- Why characters aren't a text, by the kind of the fault: a wrong token, or, where all are tokens,
+-- a fault of the grammar.
 abbrev pub IsTextFaultBy : FaultKind → List ℕ → TextFault → Type 0
-IsTextFaultBy fault.Order source f = (ts : List Token) × AreTokens source ts × IsGrammarFault source ts (after text_start source) f
-IsTextFaultBy fault.End source f = (ts : List Token) × AreTokens source ts × IsGrammarFault source ts (after text_start source) f
+IsTextFaultBy fault.Order source f =
+    (ts : List Token) × AreTokens source ts × IsGrammarFault source ts (after text_start source) f
+IsTextFaultBy fault.End source f =
+    (ts : List Token) × AreTokens source ts × IsGrammarFault source ts (after text_start source) f
 IsTextFaultBy kind source f = IsTokenFault source f
 
 abbrev pub IsTextFault : List ℕ → TextFault → Type 0

@@ -1,5 +1,5 @@
--- What the parts of a syntax are: such as the grammar can have at their places, and in the order of a
--- text.
+-- What the parts of a syntax are: such as the grammar can have at their places, and in the order of
+-- a text.
 use Rattle.std.specs.Prelude.{ℕ, ℤ, pos, negsuc, ◌≡◌, ◌≤◌, ◌^◌, ◌==◌, ◌||◌, ⊤, nat_le, nat_lt, Bool, true, false, List, [], ◌∷◌, ◌++◌, Option, Some, None, is_some}
 use Rattle.std.proofs.Math.Bool.{Bool-set}
 use Rattle.std.specs.Coded.{×_prop, Unit-prop, le_prop}
@@ -73,7 +73,8 @@ IsParamFine param = IsName param.name × IsWord param.kind
 
 abbrev pub IsElementFine : Element → Type 0
 IsElementFine (element.Node name class) = IsName name × IsWord class
-IsElementFine (element.Edge source target reference) = IsName source × IsName target × IsWord reference
+IsElementFine (element.Edge source target reference) =
+    IsName source × IsName target × IsWord reference
 
 -- A simple item, with its names and the pieces of its expression.
 abbrev pub IsSimpleFine : Simple → Type 0
@@ -116,14 +117,17 @@ abbrev pub IsBodyFine : Body → Type 0
 IsBodyFine (body.Sequential calls) = AllByRecursion IsCallFine calls
 IsBodyFine (body.Independent calls) = AllByRecursion IsCallFine calls
 IsBodyFine (body.Priority calls) = AllByRecursion IsCallFine calls
-IsBodyFine (body.Conditional test then otherwise) = IsCallFine test × IsCallFine then × IsElseFine otherwise
+IsBodyFine (body.Conditional test then otherwise) =
+    IsCallFine test × IsCallFine then × IsElseFine otherwise
 IsBodyFine (body.Loop call) = IsCallFine call
 IsBodyFine (body.Iterated count call) = IsCountFine count × IsCallFine call
 
 -- A rule or a unit, with its name, its parameters and its parts.
 abbrev pub IsDefinitionFine : Definition → Type 0
-IsDefinitionFine (definition.Rule rule) = IsName rule.name × AllByRecursion IsParamFine rule.params × AllByRecursion IsItemFine rule.items
-IsDefinitionFine (definition.Unit unit) = IsName unit.name × AllByRecursion IsParamFine unit.params × IsBodyFine unit.body
+IsDefinitionFine (definition.Rule rule) =
+    IsName rule.name × AllByRecursion IsParamFine rule.params × AllByRecursion IsItemFine rule.items
+IsDefinitionFine (definition.Unit unit) =
+    IsName unit.name × AllByRecursion IsParamFine unit.params × IsBodyFine unit.body
 
 -- The spans of each part, in the order of the text.
 abbrev pub piece_spans : Piece → List Span
@@ -150,7 +154,8 @@ param_spans param = param.name.span ∷ param.kind.span ∷ []
 
 abbrev pub element_spans : Element → List Span
 element_spans (element.Node name class) = name.span ∷ class.span ∷ []
-element_spans (element.Edge source target reference) = source.span ∷ target.span ∷ reference.span ∷ []
+element_spans (element.Edge source target reference) =
+    source.span ∷ target.span ∷ reference.span ∷ []
 
 abbrev pub simple_spans : Simple → List Span
 simple_spans (simple.Marked mark element) = element_spans element
@@ -188,24 +193,30 @@ abbrev pub body_spans : Body → List Span
 body_spans (body.Sequential calls) = flat_map call_spans calls
 body_spans (body.Independent calls) = flat_map call_spans calls
 body_spans (body.Priority calls) = flat_map call_spans calls
-body_spans (body.Conditional test then otherwise) = call_spans test ++ (call_spans then ++ else_spans otherwise)
+body_spans (body.Conditional test then otherwise) =
+    call_spans test ++ (call_spans then ++ else_spans otherwise)
 body_spans (body.Loop call) = call_spans call
 body_spans (body.Iterated count call) = count_spans count ++ call_spans call
 
 abbrev pub definition_spans : Definition → List Span
-definition_spans (definition.Rule rule) = rule.name.span ∷ (flat_map param_spans rule.params ++ flat_map item_spans rule.items)
-definition_spans (definition.Unit unit) = unit.name.span ∷ (flat_map param_spans unit.params ++ body_spans unit.body)
+definition_spans (definition.Rule rule) =
+    rule.name.span ∷ (flat_map param_spans rule.params ++ flat_map item_spans rule.items)
+definition_spans (definition.Unit unit) =
+    unit.name.span ∷ (flat_map param_spans unit.params ++ body_spans unit.body)
 
--- Each span ends where it begins or after, and begins where the one before it ends, or after; the first
--- begins at this character or after.
+-- Each span ends where it begins or after, and begins where the one before it ends, or after; the
+-- first begins at this character or after.
 abbrev pub AreInOrder : ℕ → List Span → Type 0
 AreInOrder from [] = ⊤
-AreInOrder from (span ∷ spans) = (from ≤ span.start) × (span.start ≤ span.end) × AreInOrder span.end spans
+AreInOrder from (span ∷ spans) =
+    (from ≤ span.start) × (span.start ≤ span.end) × AreInOrder span.end spans
 
--- The definitions have parts that the grammar can have at their places, and spans that are slices of a
--- text, in order.
+-- The definitions have parts that the grammar can have at their places, and spans that are slices
+-- of a text, in order.
 abbrev pub AreWellFormed : List Definition → Type 0
-AreWellFormed definitions = AllByRecursion IsDefinitionFine definitions × AreInOrder 0 (flat_map definition_spans definitions)
+AreWellFormed definitions =
+    AllByRecursion IsDefinitionFine definitions
+    × AreInOrder 0 (flat_map definition_spans definitions)
 
 -- Each of these has one proof at most, as a type's own facts must have.
 
@@ -268,17 +279,26 @@ body-prop : (b : Body) → IsProp (IsBodyFine b)
 body-prop (body.Sequential calls) = AllByRecursion-prop IsCallFine call-prop calls
 body-prop (body.Independent calls) = AllByRecursion-prop IsCallFine call-prop calls
 body-prop (body.Priority calls) = AllByRecursion-prop IsCallFine call-prop calls
-body-prop (body.Conditional test then otherwise) = hlevel (Bool-set, call-prop test, call-prop then, else-prop otherwise)
+body-prop (body.Conditional test then otherwise) =
+    hlevel (Bool-set, call-prop test, call-prop then, else-prop otherwise)
 body-prop (body.Loop call) = call-prop call
 body-prop (body.Iterated count call) = ×_prop (count-prop count) (call-prop call)
 
 definition-prop : (d : Definition) → IsProp (IsDefinitionFine d)
-definition-prop (definition.Rule rule) = hlevel (Bool-set, AllByRecursion-prop IsParamFine param-prop rule.params, AllByRecursion-prop IsItemFine item-prop rule.items)
-definition-prop (definition.Unit unit) = hlevel (Bool-set, AllByRecursion-prop IsParamFine param-prop unit.params, body-prop unit.body)
+definition-prop (definition.Rule rule) =
+    hlevel (
+      Bool-set,
+      AllByRecursion-prop IsParamFine param-prop rule.params,
+      AllByRecursion-prop IsItemFine item-prop rule.items,
+    )
+definition-prop (definition.Unit unit) =
+    hlevel (Bool-set, AllByRecursion-prop IsParamFine param-prop unit.params, body-prop unit.body)
 
 order-prop : (from : ℕ) (spans : List Span) → IsProp (AreInOrder from spans)
 order-prop from [] = Unit-prop
 order-prop from (span ∷ spans) = hlevel (le_prop, order-prop span.end spans)
 
 pub AreWellFormed-prop : (ds : List Definition) → IsProp (AreWellFormed ds)
-AreWellFormed-prop ds = ×_prop (AllByRecursion-prop IsDefinitionFine definition-prop ds) (order-prop 0 (flat_map definition_spans ds))
+AreWellFormed-prop ds =
+    ×_prop (AllByRecursion-prop IsDefinitionFine definition-prop ds)
+    (order-prop 0 (flat_map definition_spans ds))

@@ -29,12 +29,13 @@ slice source span = take (span.end - span.start) (drop span.start source)
 abbrev pub name_of : List ℕ → Token → Name
 name_of source t = record { text = encode_utf8_all (slice source t.span); span = t.span }
 
--- What an escape means, by the character after its backslash: `n` for a line feed, `t` for a tab, and else the character itself.
+-- What an escape means, by the character after its backslash: `n` for a line feed, `t` for a tab,
+-- and else the character itself.
 abbrev pub escape_value : ℕ → ℕ
 escape_value c = if c == 110 then 10 else if c == 116 then 9 else c
 
--- The characters that a text means, from after its first quote on. The first argument says whether a
--- backslash is before them.
+-- The characters that a text means, from after its first quote on. The first argument says whether
+-- a backslash is before them.
 abbrev pub content : Bool → List ℕ → List ℕ
 content after_backslash [] = []
 content true (c ∷ cs) = escape_value c ∷ content false cs

@@ -1,5 +1,5 @@
-//! The text of an expression, in one pass over its pieces from the last to the first: so neither the
-//! machine's stack nor the time grows with its depth.
+//! The text of an expression, in one pass over its pieces from the last to the first: so neither
+//! the machine's stack nor the time grows with its depth.
 
 ghost use Rattle.std.specs.Prelude.{◌≡◌, ◌++◌, IfOk, OnOk, string_bytes};
 ghost use Rattle.std.specs.List.{concat};
@@ -48,8 +48,8 @@ fn piece_text(alloc: Global, piece: &Piece) -> Result<Text, AllocError>
     }
 }
 
-// Takes the next expression that is to be written, and whether it needs parentheses; the texts after
-// it are written then.
+// Takes the next expression that is to be written, and whether it needs parentheses; the texts
+// after it are written then.
 fn next(tasks: &mut Stack<Task>, texts: &mut Stack<Text>) -> Result<Option<bool>, AllocError>
     ensures next { IfOk result (λ r. r ≡ next_expr tasks.old) }
     ensures below { OnOk result (tasks.new ≡ below_expr tasks.old) }

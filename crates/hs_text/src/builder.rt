@@ -358,7 +358,8 @@ impl Builder {
 
     // Gives a value to the parameter whose name is held.
     fn give(&mut self, alloc: Global, source: &[char], value: Atom) -> Result<(), AllocError>
-        ensures { OnOk result (self.new ≡ with_value source.now self.old (last_token self.old) (below_one self.old) value) }
+        ensures { OnOk result (self.new
+            ≡ with_value source.now self.old (last_token self.old) (below_one self.old) value) }
     {
         let parameter = words::name(alloc, source, self.last())?;
         self.binds.push(Bind::Give { parameter, value })

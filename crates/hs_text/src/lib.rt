@@ -1,13 +1,14 @@
 //! Rule and unit text as syntax: [`parse`] gives the syntax of a text, or its first fault, and
 //! [`print`] the canonical text of a syntax, which is read back as the same syntax.
 //!
-//! The tokens come from hs_tokens. They are read by an LL(1) table of productions over a stack of what
-//! the rest of the text is made of ([`grammar`], [`table`], [`expand`], [`parser`]), and syntax is made
-//! as they are taken ([`builder`], [`words`]); so no text, however deep, overruns the machine's
-//! stack. `specs/Grammar.antt` defines what a text is.
+//! The tokens come from hs_tokens. They are read by an LL(1) table of productions over a stack of
+//! what the rest of the text is made of ([`grammar`], [`table`], [`expand`], [`parser`]), and
+//! syntax is made as they are taken ([`builder`], [`words`]); so no text, however deep, overruns
+//! the machine's stack. `specs/Grammar.antt` defines what a text is.
 //!
-//! A syntax is written part by part ([`printing`], [`unit_printing`], [`spelling`]), an expression from
-//! its last piece to its first ([`arranging`]). `specs/Canonical.antt` defines the canonical text, and
+//! A syntax is written part by part ([`printing`], [`unit_printing`], [`spelling`]), an expression
+//! from its last piece to its first ([`arranging`]). `specs/Canonical.antt` defines the canonical
+//! text, and
 //! `specs/WellFormed.antt` what every syntax is.
 #![tactic(auto)]
 

@@ -1,4 +1,5 @@
-//! A parser by a stack of what the rest of a text is made of, so that no text overruns the machine's.
+//! A parser by a stack of what the rest of a text is made of, so that no text overruns the
+//! machine's.
 
 ghost use Rattle.std.specs.Prelude.{◌≡◌, IfOk, IfErr};
 ghost use Rattle.std.specs.Bool.{OnTrue, OnFalse};
@@ -141,8 +142,10 @@ fn take(
     token: Token,
 ) -> Result<bool, AllocError>
     requires { Fine stack.old }
-    ensures taken { IfOk result (λ b. OnTrue b (TakesToken source.now stack.old builder.old token stack.new builder.new)) }
-    ensures refused { IfOk result (λ b. OnFalse b (RefusesToken source.now stack.old builder.old token)) }
+    ensures taken { IfOk result
+        (λ b. OnTrue b (TakesToken source.now stack.old builder.old token stack.new builder.new)) }
+    ensures refused { IfOk result
+        (λ b. OnFalse b (RefusesToken source.now stack.old builder.old token)) }
 {
     'steps: while let Some(symbol) = stack.pop() {
         match symbol {
@@ -204,7 +207,8 @@ pub fn read(
     scanned: &Scanned,
 ) -> Result<List<Definition>, Failure<TextFault>>
     ensures ok { IfOk result (IsText source.now scanned.now.tokens.items) }
-    ensures err { IfErr result (IfFault (IsGrammarFault source.now scanned.now.tokens.items scanned.now.end)) }
+    ensures err { IfErr result
+        (IfFault (IsGrammarFault source.now scanned.now.tokens.items scanned.now.end)) }
 {
     let mut builder = Builder::new(alloc);
     let mut stack = Stack::new(alloc);
@@ -222,7 +226,11 @@ pub fn read(
 
 // The fault at a token with which no text goes on.
 fn token_fault(token: Token) -> TextFault
-    ensures { result ≡ record { line = token.span.line; column = token.span.column; kind = FaultKind.Order } }
+    ensures { result ≡ record {
+      line = token.span.line;
+      column = token.span.column;
+      kind = FaultKind.Order;
+    } }
 {
     TextFault {
         line: token.span.line,

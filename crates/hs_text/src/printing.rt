@@ -33,7 +33,8 @@ fn write_element(out: &mut String, element: &Element) -> Result<(), AllocError>
 }
 
 fn write_node(out: &mut String, name: &Name, class: &Name) -> Result<(), AllocError>
-    ensures { OnOk result (string_bytes out.new ≡ string_bytes out.old ++ element_text (Element.Node name.now class.now)) }
+    ensures { OnOk result (string_bytes out.new
+        ≡ string_bytes out.old ++ element_text (Element.Node name.now class.now)) }
 {
     out.push_str("node ")?;
     out.push_str(name.text.as_str())?;
@@ -50,7 +51,8 @@ fn write_element_line(out: &mut String, element: &Element) -> Result<(), AllocEr
 }
 
 fn write_element_lines(out: &mut String, elements: &[Element]) -> Result<(), AllocError>
-    ensures { OnOk result (string_bytes out.new ≡ string_bytes out.old ++ flat_map element_line elements.now) }
+    ensures { OnOk result
+        (string_bytes out.new ≡ string_bytes out.old ++ flat_map element_line elements.now) }
 {
     for element in elements {
         write_element_line(out, element)?;
@@ -64,7 +66,8 @@ fn write_element_block(
     opening: &str,
     elements: &[Element],
 ) -> Result<(), AllocError>
-    ensures { OnOk result (string_bytes out.new ≡ string_bytes out.old ++ block one_level opening.now (flat_map element_line elements.now)) }
+    ensures { OnOk result (string_bytes out.new ≡ string_bytes out.old
+        ++ block one_level opening.now (flat_map element_line elements.now)) }
 {
     out.push_str("  ")?;
     out.push_str(opening)?;
@@ -81,7 +84,8 @@ fn write_set(
     value: &NameExpr,
 ) -> Result<(), AllocError>
     requires { IsExprFine value.now }
-    ensures { OnOk result (string_bytes out.new ≡ string_bytes out.old ++ simple_text (Simple.Set node.now attribute.now value.now)) }
+    ensures { OnOk result (string_bytes out.new
+        ≡ string_bytes out.old ++ simple_text (Simple.Set node.now attribute.now value.now)) }
 {
     out.push_str("set ")?;
     out.push_str(node.text.as_str())?;
@@ -124,7 +128,8 @@ fn write_simple_line(alloc: Global, out: &mut String, simple: &Simple) -> Result
 
 fn write_simple_lines(alloc: Global, out: &mut String, simples: &[Simple]) -> Result<(), AllocError>
     requires { AllByRecursion IsSimpleFine simples.now }
-    ensures { OnOk result (string_bytes out.new ≡ string_bytes out.old ++ flat_map simple_line simples.now) }
+    ensures { OnOk result
+        (string_bytes out.new ≡ string_bytes out.old ++ flat_map simple_line simples.now) }
 {
     for simple in simples {
         write_simple_line(alloc, out, simple)?;
@@ -154,7 +159,8 @@ fn write_item(alloc: Global, out: &mut String, item: &Item) -> Result<(), AllocE
 
 fn write_items(alloc: Global, out: &mut String, items: &[Item]) -> Result<(), AllocError>
     requires { AllByRecursion IsItemFine items.now }
-    ensures { OnOk result (string_bytes out.new ≡ string_bytes out.old ++ flat_map item_text items.now) }
+    ensures { OnOk result
+        (string_bytes out.new ≡ string_bytes out.old ++ flat_map item_text items.now) }
 {
     for item in items {
         write_item(alloc, out, item)?;
@@ -164,7 +170,8 @@ fn write_items(alloc: Global, out: &mut String, items: &[Item]) -> Result<(), Al
 
 fn write_rule(alloc: Global, out: &mut String, rule: &Rule) -> Result<(), AllocError>
     requires { IsDefinitionFine (Definition.Rule rule.now) }
-    ensures { OnOk result (string_bytes out.new ≡ string_bytes out.old ++ definition_text (Definition.Rule rule.now)) }
+    ensures { OnOk result (string_bytes out.new
+        ≡ string_bytes out.old ++ definition_text (Definition.Rule rule.now)) }
 {
     out.push_str("rule ")?;
     out.push_str(rule.name.text.as_str())?;
@@ -180,7 +187,8 @@ fn write_definition(
     definition: &Definition,
 ) -> Result<(), AllocError>
     requires { IsDefinitionFine definition.now }
-    ensures { OnOk result (string_bytes out.new ≡ string_bytes out.old ++ definition_text definition.now) }
+    ensures { OnOk result
+        (string_bytes out.new ≡ string_bytes out.old ++ definition_text definition.now) }
 {
     match definition {
         Definition::Rule(rule) => write_rule(alloc, out, rule),
@@ -195,7 +203,8 @@ fn write_more_definitions(
     definitions: &[Definition],
 ) -> Result<(), AllocError>
     requires { AllByRecursion IsDefinitionFine definitions.now }
-    ensures { OnOk result (string_bytes out.new ≡ string_bytes out.old ++ flat_map (λ next. codes "\n" ++ definition_text next) definitions.now) }
+    ensures { OnOk result (string_bytes out.new ≡ string_bytes out.old
+        ++ flat_map (λ next. codes "\n" ++ definition_text next) definitions.now) }
 {
     for definition in definitions {
         out.push_str("\n")?;
@@ -210,7 +219,8 @@ fn write_definitions(
     definitions: &[Definition],
 ) -> Result<(), AllocError>
     requires { AllByRecursion IsDefinitionFine definitions.now }
-    ensures { OnOk result (string_bytes out.new ≡ string_bytes out.old ++ canonical_text definitions.now) }
+    ensures { OnOk result
+        (string_bytes out.new ≡ string_bytes out.old ++ canonical_text definitions.now) }
 {
     match definitions {
         [] => Ok(()),
@@ -222,7 +232,8 @@ fn write_definitions(
 }
 
 /// The canonical text of a syntax: one definition after another with an empty line between two, two
-/// spaces a level, items in written order, and parentheses round each operand that an operator makes.
+/// spaces a level, items in written order, and parentheses round each operand that an operator
+/// makes.
 pub fn print(alloc: Global, syntax: &Syntax) -> Result<Text, AllocError>
     ensures { IfOk result (λ text. text ≡ canonical_text syntax.now.definitions) }
 {

@@ -63,7 +63,8 @@ pub fn characters(alloc: Global, text: &str) -> Result<Vec<char>, AllocError>
 
 // Writes a character of a text in quotes.
 fn write_escaped(out: &mut String, c: char) -> Result<(), AllocError>
-    ensures { OnOk result (string_bytes out.new ≡ string_bytes out.old ++ flat_map escape (encode_utf8 c)) }
+    ensures { OnOk result
+        (string_bytes out.new ≡ string_bytes out.old ++ flat_map escape (encode_utf8 c)) }
 {
     if c == '"' {
         return out.push_str("\\\"");
@@ -81,7 +82,8 @@ fn write_escaped(out: &mut String, c: char) -> Result<(), AllocError>
 }
 
 fn write_characters(out: &mut String, chars: &[char]) -> Result<(), AllocError>
-    ensures { OnOk result (string_bytes out.new ≡ string_bytes out.old ++ flat_map escape (encode_utf8_all chars.now)) }
+    ensures { OnOk result (string_bytes out.new
+        ≡ string_bytes out.old ++ flat_map escape (encode_utf8_all chars.now)) }
 {
     for c in chars {
         write_escaped(out, *c)?;

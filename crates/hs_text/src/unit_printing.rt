@@ -20,7 +20,8 @@ fn write_param(out: &mut String, param: &Param) -> Result<(), AllocError>
 
 // Writes the parameters after the first.
 fn write_more_params(out: &mut String, params: &[Param]) -> Result<(), AllocError>
-    ensures { OnOk result (string_bytes out.new ≡ string_bytes out.old ++ flat_map (λ next. codes ", " ++ next) (map param_text params.now)) }
+    ensures { OnOk result (string_bytes out.new ≡ string_bytes out.old
+        ++ flat_map (λ next. codes ", " ++ next) (map param_text params.now)) }
 {
     for param in params {
         out.push_str(", ")?;
@@ -30,7 +31,8 @@ fn write_more_params(out: &mut String, params: &[Param]) -> Result<(), AllocErro
 }
 
 fn write_param_list(out: &mut String, params: &[Param]) -> Result<(), AllocError>
-    ensures { OnOk result (string_bytes out.new ≡ string_bytes out.old ++ commas (map param_text params.now)) }
+    ensures { OnOk result
+        (string_bytes out.new ≡ string_bytes out.old ++ commas (map param_text params.now)) }
 {
     match params {
         [] => Ok(()),
@@ -88,7 +90,8 @@ fn write_bind(alloc: Global, out: &mut String, bind: &Bind) -> Result<(), AllocE
 
 // Writes the binds after the first.
 fn write_more_binds(alloc: Global, out: &mut String, binds: &[Bind]) -> Result<(), AllocError>
-    ensures { OnOk result (string_bytes out.new ≡ string_bytes out.old ++ flat_map (λ next. codes ", " ++ next) (map bind_text binds.now)) }
+    ensures { OnOk result (string_bytes out.new
+        ≡ string_bytes out.old ++ flat_map (λ next. codes ", " ++ next) (map bind_text binds.now)) }
 {
     for bind in binds {
         out.push_str(", ")?;
@@ -98,7 +101,8 @@ fn write_more_binds(alloc: Global, out: &mut String, binds: &[Bind]) -> Result<(
 }
 
 fn write_bind_list(alloc: Global, out: &mut String, binds: &[Bind]) -> Result<(), AllocError>
-    ensures { OnOk result (string_bytes out.new ≡ string_bytes out.old ++ commas (map bind_text binds.now)) }
+    ensures { OnOk result
+        (string_bytes out.new ≡ string_bytes out.old ++ commas (map bind_text binds.now)) }
 {
     match binds {
         [] => Ok(()),
@@ -125,7 +129,8 @@ fn write_call_line(
     front: &str,
     call: &Call,
 ) -> Result<(), AllocError>
-    ensures { OnOk result (string_bytes out.new ≡ string_bytes out.old ++ call_line front.now call.now) }
+    ensures { OnOk result
+        (string_bytes out.new ≡ string_bytes out.old ++ call_line front.now call.now) }
 {
     out.push_str("  ")?;
     out.push_str(front)?;
@@ -134,7 +139,8 @@ fn write_call_line(
 }
 
 fn write_call_lines(alloc: Global, out: &mut String, calls: &[Call]) -> Result<(), AllocError>
-    ensures { OnOk result (string_bytes out.new ≡ string_bytes out.old ++ flat_map (call_line []) calls.now) }
+    ensures { OnOk result
+        (string_bytes out.new ≡ string_bytes out.old ++ flat_map (call_line []) calls.now) }
 {
     for call in calls {
         write_call_line(alloc, out, "", call)?;
@@ -203,7 +209,8 @@ fn write_body_lines(alloc: Global, out: &mut String, body: &Body) -> Result<(), 
 
 /// Writes a unit.
 pub fn write_unit(alloc: Global, out: &mut String, unit: &Unit) -> Result<(), AllocError>
-    ensures { OnOk result (string_bytes out.new ≡ string_bytes out.old ++ definition_text (Definition.Unit unit.now)) }
+    ensures { OnOk result (string_bytes out.new
+        ≡ string_bytes out.old ++ definition_text (Definition.Unit unit.now)) }
 {
     out.push_str("unit ")?;
     out.push_str(unit.name.text.as_str())?;

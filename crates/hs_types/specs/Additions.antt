@@ -15,8 +15,8 @@ keeps_all shape =
     list_all (λ node. not (is_drop node.mark)) shape.nodes
     && list_all (λ edge. not (is_drop edge.mark)) shape.edges
 
--- The rule keeps and makes, without condition: it drops nothing, sets nothing, and has no forbid and
--- require blocks and no multi-rules.
+-- The rule keeps and makes, without condition: it drops nothing, sets nothing, and has no forbid
+-- and require blocks and no multi-rules.
 abbrev pub only_adds : Rule → Bool
 only_adds rule =
     keeps_all rule.shape

@@ -47,7 +47,8 @@ object_argument args name = option_and_then object_in_arg (argument_named args n
 
 -- The value that is given to the rule's parameter of this number.
 abbrev pub param_value : Rule → Args → ℕ → Option Value
-param_value rule args number = option_and_then (λ param. value_argument args param.name) (slice_get rule.params number)
+param_value rule args number =
+    option_and_then (λ param. value_argument args param.name) (slice_get rule.params number)
 
 -- Where a parameter wants a value, one of its kind; where it wants an object, any name.
 abbrev pub IsOfKind : ParamKind → Arg → Type 0
@@ -55,12 +56,16 @@ IsOfKind (kind.Data k) (arg.Value v) = kind_of v ≡ k
 IsOfKind (kind.Object class) (arg.Object name) = Unit {0}
 IsOfKind _ _ = ⊥
 
--- The arguments are those that the rule takes: one of the right kind for each in parameter, and no other. Each name stands once, in the order of its bytes.
+-- The arguments are those that the rule takes: one of the right kind for each in parameter, and no
+-- other. Each name stands once, in the order of its bytes.
 pub record ArgsFit (params : List Param) (args : Args) : Type 0 where
   pub names_rise : EachPair (λ a b. IsBefore a.name b.name) args.list
-  pub each_given : All (λ param. is_in param.direction ≡ true → IsSomeAnd (argument_named args param.name) (IsOfKind param.kind)) params
-  pub each_taken : All (λ a. list_any (λ param. is_in param.direction && same_text param.name a.name) params ≡ true) args.list
+  pub each_given : All (λ param. is_in param.direction ≡ true
+      → IsSomeAnd (argument_named args param.name) (IsOfKind param.kind)) params
+  pub each_taken : All (λ a. list_any
+      (λ param. is_in param.direction && same_text param.name a.name) params ≡ true) args.list
 
--- A node that an argument names goes to the object of the argument's name; any other goes where it will.
+-- A node that an argument names goes to the object of the argument's name; any other goes where it
+-- will.
 abbrev pub Follows : Graph → Args → PatternNode → ℕ → Type 0
 Follows g args node n = IfSome (object_argument args node.name) (λ name. name_at g n ≡ Some name)

@@ -19,7 +19,8 @@ use Rattle.hs_types.specs.Pattern.{shape_of}
 use Rattle.hs_types.specs.PlainMatch.{image, Extends}
 use Rattle.hs_types.specs.TypedGraph.{value_at}
 
--- What expressions over these nodes see: the slots of the nodes' images, with their values in the graph, and the values of the arguments.
+-- What expressions over these nodes see: the slots of the nodes' images, with their values in the
+-- graph, and the values of the arguments.
 abbrev pub env_of : Graph → Rule → Args → List PatternNode → List ℕ → Env
 env_of g rule args nodes images = record {
   slot = λ node attribute. value_at g (image nodes images node) (Attribute attribute);
@@ -32,7 +33,8 @@ AreTrue env wheres = All (λ expr. value_of env expr ≡ Some (value.Bool true))
 
 -- Each has a value, and one of its attribute's type.
 abbrev pub AreFit : Metamodel → Env → List SetItem → Type 0
-AreFit m env sets = All (λ item. IsSomeAnd (value_of env item.value) (λ v. fits m item.attribute v ≡ true)) sets
+AreFit m env sets =
+    All (λ item. IsSomeAnd (value_of env item.value) (λ v. fits m item.attribute v ≡ true)) sets
 
 -- The match goes on to the part in no way.
 abbrev pub IsAbsent : Metamodel → Graph → Rule → Extension → Part → Type 0

@@ -17,8 +17,11 @@ dropped_edges s x = beside (λ edge. is_drop edge.mark) (left_edges s.edges) x.e
 
 -- Where these objects and these edges go, each edge at one of the objects is one of the edges.
 abbrev pub NoneDangle : List ℕ → List ℕ → Graph → Type 0
-NoneDangle objects edges g = All (λ edge. (has objects edge.source || has objects edge.target) ≡ true → has edges edge.number ≡ true) g.edges
+NoneDangle objects edges g =
+    All (λ edge. (has objects edge.source || has objects edge.target) ≡ true
+    → has edges edge.number ≡ true) g.edges
 
 -- An edge that would be left without an end.
 abbrev pub Dangles : List ℕ → List ℕ → Edge → Type 0
-Dangles objects edges edge = ((has objects edge.source || has objects edge.target) ≡ true) × (has edges edge.number ≡ false)
+Dangles objects edges edge =
+    ((has objects edge.source || has objects edge.target) ≡ true) × (has edges edge.number ≡ false)

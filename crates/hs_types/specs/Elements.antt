@@ -13,7 +13,8 @@ pub data Element : Type 0 where
   Slot : ℕ → Element
 
 abbrev pub edge_is : (Mark → Bool) → Shape → ℕ → Bool
-edge_is test shape n = unwrap_or (option_map (λ edge. test edge.mark) (slice_get shape.edges n)) false
+edge_is test shape n =
+    unwrap_or (option_map (λ edge. test edge.mark) (slice_get shape.edges n)) false
 
 abbrev pub slot_is : (PatternSlot → Bool) → Shape → ℕ → Bool
 slot_is test shape n = unwrap_or (option_map test (slice_get shape.slots n)) false
@@ -25,13 +26,15 @@ left_slot shape slot = node_is is_left shape.nodes slot.node
 abbrev pub written_slot : Shape → PatternSlot → Bool
 written_slot shape slot = left_slot shape slot && slot.written
 
--- A rule uses each element of its left side: what it keeps, what it drops, and the slots of left nodes.
+-- A rule uses each element of its left side: what it keeps, what it drops, and the slots of left
+-- nodes.
 abbrev pub uses : Shape → Element → Bool
 uses shape (Node n) = node_is is_left shape.nodes n
 uses shape (Edge n) = edge_is is_left shape n
 uses shape (Slot n) = slot_is (left_slot shape) shape n
 
--- It deletes the dropped nodes, the dropped edges and the written slots: a value that is overwritten is gone.
+-- It deletes the dropped nodes, the dropped edges and the written slots: a value that is
+-- overwritten is gone.
 abbrev pub deletes : Shape → Element → Bool
 deletes shape (Node n) = node_is is_drop shape.nodes n
 deletes shape (Edge n) = edge_is is_drop shape n

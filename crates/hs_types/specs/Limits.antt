@@ -20,9 +20,12 @@ pub record IsSmallMeta (m : Metamodel) : Type 0 where
 
 -- How many of the edges have this one's source, reference and target, whatever their marks are.
 abbrev pub parallel_to : PatternEdge → List PatternEdge → ℕ
-parallel_to edge edges = length (filter (λ other. eqb other.source edge.source && eqb other.reference edge.reference && eqb other.target edge.target) edges)
+parallel_to edge edges =
+    length (filter (λ other. eqb other.source edge.source && eqb other.reference edge.reference
+    && eqb other.target edge.target) edges)
 
--- At most 12 nodes and 16 edges of one kernel, part or multi-rule, and at most 3 edges of one source, reference and target.
+-- At most 12 nodes and 16 edges of one kernel, part or multi-rule, and at most 3 edges of one
+-- source, reference and target.
 pub record IsSmallShape (nodes : List PatternNode) (edges : List PatternEdge) : Type 0 where
   pub few_nodes : length nodes ≤ MAX_PATTERN_NODES
   pub few_edges : length edges ≤ MAX_PATTERN_EDGES
@@ -30,7 +33,9 @@ pub record IsSmallShape (nodes : List PatternNode) (edges : List PatternEdge) : 
 
 -- No operator stands below more than 31 others.
 abbrev pub AreFlat : List Expr → List SetItem → Type 0
-AreFlat wheres sets = All (λ expr. nesting expr ≤ MAX_NESTING) wheres × All (λ item. nesting item.value ≤ MAX_NESTING) sets
+AreFlat wheres sets =
+    All (λ expr. nesting expr ≤ MAX_NESTING) wheres
+    × All (λ item. nesting item.value ≤ MAX_NESTING) sets
 
 -- At most 16 parameters, 8 forbid and require parts together, and 4 multi-rules.
 pub record IsSmallRule (rule : Rule) : Type 0 where
@@ -40,7 +45,8 @@ pub record IsSmallRule (rule : Rule) : Type 0 where
   pub kernel : IsSmallShape rule.shape.nodes rule.shape.edges
   pub each_forbid : All (λ part. IsSmallShape part.nodes part.edges) rule.forbids
   pub each_need : All (λ part. IsSmallShape part.nodes part.edges) rule.needs
-  pub each_multi : All (λ multi. IsSmallShape multi.shape.nodes multi.shape.edges × AreFlat multi.wheres multi.sets) rule.multis
+  pub each_multi : All (λ multi. IsSmallShape multi.shape.nodes multi.shape.edges
+      × AreFlat multi.wheres multi.sets) rule.multis
   pub flat : AreFlat rule.wheres rule.sets
 
 -- At most 16 parameters and 16 calls.

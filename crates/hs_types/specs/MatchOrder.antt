@@ -3,7 +3,8 @@ use Rattle.std.specs.Prelude.{◌≡◌, ◌⊎◌, Option, MatchOption}
 use Rattle.hs_expr.specs.Lexicographic.{IsBefore}
 use Rattle.hs_types.specs.declared.matching.Extension.{Extension}
 
--- The numbers of the objects decide, in written order of the nodes; where they are the same, those of the edges do.
+-- The numbers of the objects decide, in written order of the nodes; where they are the same, those
+-- of the edges do.
 abbrev pub IsEarlier : Extension → Extension → Type 0
 IsEarlier x y = IsBefore x.nodes y.nodes ⊎ ((x.nodes ≡ y.nodes) × IsBefore x.edges y.edges)
 

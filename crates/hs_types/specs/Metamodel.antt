@@ -1,4 +1,5 @@
--- Metamodels, after Ecore: classes with supertypes, and the attributes and references that they own.
+-- Metamodels, after Ecore: classes with supertypes, and the attributes and references that they
+-- own.
 use Rattle.std.specs.Prelude.{ℕ, ◌^◌, ◌<◌, ◌≤◌, ◌≡◌, ◌⊎◌, List, [], ◌++◌, is_some, map, length, Bool, true, false, eqb, ◌||◌, Option, Some, None, IsSomeAnd, IfSome, EachIndex, slice_get}
 use Rattle.std.specs.List.{All, AllPairs, filter, flat_map}
 use Rattle.std.specs.Option.{option_map, option_and_then, unwrap_or}
@@ -48,7 +49,8 @@ IsConcrete m c = IsSomeAnd (class_at m c) (λ class. class.is_abstract ≡ false
 abbrev pub HaveCommon : Metamodel → ℕ → ℕ → Type 0
 HaveCommon m a b = (c : ℕ) × IsConcrete m c × Conforms m c a × Conforms m c b
 
--- The values that a data type has: of EInt the whole numbers of 32 bits with a sign, of ELong those of 64 bits.
+-- The values that a data type has: of EInt the whole numbers of 32 bits with a sign, of ELong those
+-- of 64 bits.
 abbrev pub is_of_type : DataType → Value → Bool
 is_of_type EInt (value.Int n) = is_within (2 ^ 31) n
 is_of_type ELong (value.Int n) = is_within (2 ^ 63) n
@@ -105,14 +107,19 @@ owned_by m c = places (λ feature. eqb feature.owner c) m.features
 
 -- Features stand class by class, and of one class its attributes before its references.
 abbrev pub StandBefore : Feature → Feature → Type 0
-StandBefore f g = (f.owner < g.owner) ⊎ ((f.owner ≡ g.owner) × (is_attribute g ≡ true → is_attribute f ≡ true))
+StandBefore f g =
+    (f.owner < g.owner) ⊎ ((f.owner ≡ g.owner) × (is_attribute g ≡ true → is_attribute f ≡ true))
 
--- A default is of its data type. A reference leads to a class; it has room for one target or more, and for no fewer than it needs.
+-- A default is of its data type. A reference leads to a class; it has room for one target or more,
+-- and for no fewer than it needs.
 abbrev pub FeatureFits : Metamodel → FeatureKind → Type 0
 FeatureFits m (Attribute data_type default) = is_of_type data_type default ≡ true
-FeatureFits m (Reference target containment lower upper) = (target < length m.classes) × IfSome upper (λ most. (0 < most) × (lower ≤ most))
+FeatureFits m (Reference target containment lower upper) =
+    (target < length m.classes) × IfSome upper (λ most. (0 < most) × (lower ≤ most))
 
--- Classes and features with which objects can be typed. No class is its own supertype, by one step or more. The features of a class are the inherited ones, supertype by supertype, each once, and then its own; no two of them have one name.
+-- Classes and features with which objects can be typed. No class is its own supertype, by one step
+-- or more. The features of a class are the inherited ones, supertype by supertype, each once, and
+-- then its own; no two of them have one name.
 pub record IsMeta (m : Metamodel) : Type 0 where
   pub names_differ : Differ (map (λ class. class.name) m.classes)
   pub supers_stand : All (λ class. All (λ d. d < length m.classes) class.supers) m.classes
@@ -120,5 +127,7 @@ pub record IsMeta (m : Metamodel) : Type 0 where
   pub owners_stand : All (λ feature. feature.owner < length m.classes) m.features
   pub features_sound : All (λ feature. FeatureFits m feature.kind) m.features
   pub features_in_order : AllPairs StandBefore m.features
-  pub features_whole : EachIndex m.classes (λ c. IsSomeAnd (class_at m c) (λ class. class.features ≡ each_once (flat_map (features_of m) class.supers) ++ owned_by m c))
-  pub features_differ : All (λ class. Differ (map (λ f. option_map (λ feature. feature.name) (feature_at m f)) class.features)) m.classes
+  pub features_whole : EachIndex m.classes (λ c. IsSomeAnd (class_at m c)
+      (λ class. class.features ≡ each_once (flat_map (features_of m) class.supers) ++ owned_by m c))
+  pub features_differ : All (λ class. Differ
+      (map (λ f. option_map (λ feature. feature.name) (feature_at m f)) class.features)) m.classes

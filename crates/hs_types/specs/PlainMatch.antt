@@ -1,4 +1,5 @@
--- Plain matches, and how one goes on: an injective map from the left side to objects and edges of the graph.
+-- Plain matches, and how one goes on: an injective map from the left side to objects and edges of
+-- the graph.
 use Rattle.std.specs.Prelude.{ℕ, ◌≡◌, List, [], ◌++◌, length, take, Some, slice_index}
 use Rattle.std.specs.List.{AllZip}
 use Rattle.hs_types.specs.declared.graph.Graph.{Graph}
@@ -12,18 +13,29 @@ use Rattle.hs_expr.specs.Lists.{Differ}
 use Rattle.hs_types.specs.Pattern.{left_nodes, left_edges, no_shape}
 use Rattle.hs_types.specs.TypedGraph.{edge_at, IsOf}
 
--- The images of left nodes stand in a list, in written order. That of node n stands behind those of the left nodes before it.
+-- The images of left nodes stand in a list, in written order. That of node n stands behind those of
+-- the left nodes before it.
 abbrev pub image : List PatternNode → List ℕ → ℕ → ℕ
 image nodes images n = slice_index images (length (left_nodes (take n nodes)))
 
 -- Edge n of the graph has the pattern edge's reference, and joins the images of its ends.
 abbrev pub IsImage : Graph → (ℕ → ℕ) → PatternEdge → ℕ → Type 0
-IsImage g at edge n = edge_at g n ≡ Some (record { number = n; source = at edge.source; reference = edge.reference; target = at edge.target })
+IsImage g at edge n =
+    edge_at g n ≡ Some (record {
+      number = n;
+      source = at edge.source;
+      reference = edge.reference;
+      target = at edge.target;
+    })
 
--- x takes the match f of the shape s on to the shape t: an object for each left node of t, of its class; an edge for each left edge of t, of its reference and between the images of its ends. No object and no edge is taken twice, by f and x together.
-pub record Extends (m : Metamodel) (g : Graph) (s : Shape) (f : Extension) (t : Shape) (x : Extension) : Type 0 where
+-- x takes the match f of the shape s on to the shape t: an object for each left node of t, of its
+-- class; an edge for each left edge of t, of its reference and between the images of its ends. No
+-- object and no edge is taken twice, by f and x together.
+pub record Extends (m : Metamodel) (g : Graph) (s : Shape) (f : Extension) (t : Shape)
+    (x : Extension) : Type 0 where
   pub nodes_fit : AllZip (λ node n. IsOf m g node.class n) (left_nodes t.nodes) x.nodes
-  pub edges_fit : AllZip (IsImage g (image (s.nodes ++ t.nodes) (f.nodes ++ x.nodes))) (left_edges t.edges) x.edges
+  pub edges_fit : AllZip (IsImage g (image (s.nodes ++ t.nodes) (f.nodes ++ x.nodes)))
+      (left_edges t.edges) x.edges
   pub nodes_differ : Differ (f.nodes ++ x.nodes)
   pub edges_differ : Differ (f.edges ++ x.edges)
 

@@ -1,4 +1,5 @@
--- Reachability in a directed graph given by adjacency lists: for each vertex, the vertices that its edges lead to.
+-- Reachability in a directed graph given by adjacency lists: for each vertex, the vertices that its
+-- edges lead to.
 use Rattle.std.specs.Prelude.{ℕ, zero, suc, ◌≡◌, ◌↔◌, List, map, length, Bool, true, false, eqb, ◌||◌, get_or, IsSomeAnd, slice_get}
 use Rattle.std.specs.List.{list_any, range_with_len}
 use Rattle.hs_expr.specs.Lists.{has}
@@ -19,7 +20,8 @@ is_or_reaches w marks v = eqb w v || get_or marks v false
 -- For each vertex, whether a path of at most this many edges leads from it to w.
 abbrev pub reaching_within : List (List ℕ) → ℕ → ℕ → List Bool
 reaching_within graph w zero = map (λ targets. false) graph
-reaching_within graph w (suc steps) = map (list_any (is_or_reaches w (reaching_within graph w steps))) graph
+reaching_within graph w (suc steps) =
+    map (list_any (is_or_reaches w (reaching_within graph w steps))) graph
 
 -- Whether v reaches w. No path needs more edges than there are vertices.
 abbrev pub reaches : List (List ℕ) → ℕ → ℕ → Bool
@@ -31,4 +33,5 @@ SaysReaches = (graph : List (List ℕ)) (v w : ℕ) → (reaches graph v w ≡ t
 
 -- For each vertex w a row with, for each vertex, whether it reaches w.
 abbrev pub reach_rows : List (List ℕ) → List (List Bool)
-reach_rows graph = map (λ w. reaching_within graph w (length graph)) (range_with_len 0 (length graph))
+reach_rows graph =
+    map (λ w. reaching_within graph w (length graph)) (range_with_len 0 (length graph))

@@ -30,26 +30,39 @@ pub record IsOld (g : Graph) (x : Extension) : Type 0 where
   pub nodes : All (λ n. n < g.next_object) x.nodes
   pub edges : All (λ n. n < g.next_edge) x.edges
 
--- The plan makes no object of a class of the shape's nodes, and no edge of a reference of its edges.
+-- The plan makes no object of a class of the shape's nodes, and no edge of a reference of its
+-- edges.
 pub record MakesNone (m : Metamodel) (plan : Plan) (shape : Shape) : Type 0 where
-  pub objects : All (λ node. All (λ object. Conforms m object.class node.class → ⊥) plan.make_objects) shape.nodes
-  pub edges : All (λ edge. All (λ made. made.reference ≡ edge.reference → ⊥) plan.make_edges) shape.edges
+  pub objects : All (λ node.
+      All (λ object. Conforms m object.class node.class → ⊥) plan.make_objects) shape.nodes
+  pub edges : All (λ edge. All (λ made. made.reference ≡ edge.reference → ⊥) plan.make_edges)
+      shape.edges
 
 -- Of the kinds that the multi-rule has the plan makes nothing, and writes no slot.
 pub record LeavesKinds (m : Metamodel) (plan : Plan) (multi : Multi) : Type 0 where
   pub makes : MakesNone m plan multi.shape
-  pub writes : All (λ slot. All (λ write. is_kind write.slot slot.kind ≡ false) plan.writes) multi.shape.slots
+  pub writes : All (λ slot. All (λ write. is_kind write.slot slot.kind ≡ false) plan.writes)
+      multi.shape.slots
 
--- A plan spares a match, and these extensions onto the require parts, where it drops none of their objects and edges, writes no slot that the kernel uses, makes no edge at an object that the match drops, makes no extension onto a forbid part, and leaves the kinds of the multi-rules alone.
-pub record Spares (m : Metamodel) (g : Graph) (plan : Plan) (rule : Rule) (f : Match) (supports : List Extension) : Type 0 where
+-- A plan spares a match, and these extensions onto the require parts, where it drops none of their
+-- objects and edges, writes no slot that the kernel uses, makes no edge at an object that the match
+-- drops, makes no extension onto a forbid part, and leaves the kinds of the multi-rules alone.
+pub record Spares (m : Metamodel) (g : Graph) (plan : Plan) (rule : Rule) (f : Match)
+    (supports : List Extension) : Type 0 where
   pub objects : Apart (all_nodes_of rule f ++ flat_map (λ x. x.nodes) supports) plan.drop_objects
   pub edges : Apart (all_edges_of rule f ++ flat_map (λ x. x.edges) supports) plan.drop_edges
-  pub slots : All (λ slot. list_any (is_to (image rule.shape.nodes f.nodes slot.node) slot.kind) plan.writes ≡ false) rule.shape.slots
-  pub ends : All (λ edge. (has (all_dropped_nodes rule f) (number_of g.next_object edge.source) || has (all_dropped_nodes rule f) (number_of g.next_object edge.target)) ≡ false) plan.make_edges
-  pub forbids : All (λ part. (x : Extension) → Extends m (step g plan) rule.shape (kernel_of f) (shape_of part) x → IsOld g x) rule.forbids
+  pub slots : All (λ slot. list_any (is_to (image rule.shape.nodes f.nodes slot.node) slot.kind)
+      plan.writes ≡ false) rule.shape.slots
+  pub ends : All (λ edge.
+      (has (all_dropped_nodes rule f) (number_of g.next_object edge.source) || has
+      (all_dropped_nodes rule f) (number_of g.next_object edge.target)) ≡ false) plan.make_edges
+  pub forbids : All (λ part. (x : Extension)
+      → Extends m (step g plan) rule.shape (kernel_of f) (shape_of part) x → IsOld g x) rule.forbids
   pub multis : All (LeavesKinds m plan) rule.multis
 
 -- A valid match, with an extension onto each require part.
-pub record IsSupported (m : Metamodel) (g : Graph) (rule : Rule) (args : Args) (f : Match) (supports : List Extension) : Type 0 where
+pub record IsSupported (m : Metamodel) (g : Graph) (rule : Rule) (args : Args) (f : Match)
+    (supports : List Extension) : Type 0 where
   pub valid : IsValid m g rule args f
-  pub supported : AllZip (λ part x. Extends m g rule.shape (kernel_of f) (shape_of part) x) rule.needs supports
+  pub supported : AllZip (λ part x. Extends m g rule.shape (kernel_of f) (shape_of part) x)
+      rule.needs supports

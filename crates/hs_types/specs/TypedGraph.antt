@@ -23,7 +23,8 @@ edge_at g n = find (λ edge. eqb edge.number n) g.edges
 
 -- The number of the object of this name, and the name of the object at this number.
 abbrev pub object_named : Graph → List ℕ → Option ℕ
-object_named g name = option_map (λ object. object.number) (find (λ object. same_text object.name name) g.objects)
+object_named g name =
+    option_map (λ object. object.number) (find (λ object. same_text object.name name) g.objects)
 
 abbrev pub name_at : Graph → ℕ → Option (List ℕ)
 name_at g n = option_map (λ object. object.name) (object_at g n)
@@ -55,15 +56,22 @@ abbrev pub hash_name : ℕ → List ℕ
 hash_name zero = 35 ∷ 48 ∷ []
 hash_name (suc k) = 35 ∷ map (λ d. 48 + d) (digits_of 10 (suc k))
 
--- An object can be of this class and have these slots: the class is concrete, there is exactly one slot for each of its attributes, in their order, and each value is of its attribute's type.
+-- An object can be of this class and have these slots: the class is concrete, there is exactly one
+-- slot for each of its attributes, in their order, and each value is of its attribute's type.
 abbrev pub AreSlotsOf : Metamodel → ℕ → List Slot → Type 0
-AreSlotsOf m class slots = IsConcrete m class × (map (λ slot. slot.attribute) slots ≡ attributes_of m class) × All (λ slot. fits m slot.attribute slot.value ≡ true) slots
+AreSlotsOf m class slots =
+    IsConcrete m class × (map (λ slot. slot.attribute) slots ≡ attributes_of m class)
+    × All (λ slot. fits m slot.attribute slot.value ≡ true) slots
 
--- An edge of the reference can join them: the source's class has the reference as a feature, and the target's class conforms to the class that the reference leads to.
+-- An edge of the reference can join them: the source's class has the reference as a feature, and
+-- the target's class conforms to the class that the reference leads to.
 abbrev pub CanJoin : Metamodel → Graph → ℕ → ℕ → ℕ → Type 0
-CanJoin m g source reference target = HasFeature m g reference source × IsSomeAnd (target_of m reference) (λ class. IsOf m g class target)
+CanJoin m g source reference target =
+    HasFeature m g reference source
+    × IsSomeAnd (target_of m reference) (λ class. IsOf m g class target)
 
--- Objects and edges stand in the order of their numbers, which differ and are below the next ones. Names differ; where one is `#` and the digits of a number, that number is below the next name's.
+-- Objects and edges stand in the order of their numbers, which differ and are below the next ones.
+-- Names differ; where one is `#` and the digits of a number, that number is below the next name's.
 pub record IsTyped (m : Metamodel) (g : Graph) : Type 0 where
   pub objects_rise : Rise 0 (map (λ object. object.number) g.objects) g.next_object
   pub edges_rise : Rise 0 (map (λ edge. edge.number) g.edges) g.next_edge
@@ -74,14 +82,20 @@ pub record IsTyped (m : Metamodel) (g : Graph) : Type 0 where
 
 -- Edges stand object by object, and of one object in the order of its class's features.
 abbrev pub EdgeBefore : Metamodel → Graph → Edge → Edge → Type 0
-EdgeBefore m g e f = (e.source < f.source) ⊎ ((e.source ≡ f.source) × Stands g (λ c. position_or_len (eqb e.reference) (features_of m c) ≤ position_or_len (eqb f.reference) (features_of m c)) e.source)
+EdgeBefore m g e f =
+    (e.source < f.source) ⊎ ((e.source ≡ f.source)
+    × Stands g (λ c. position_or_len (eqb e.reference) (features_of m c)
+    ≤ position_or_len (eqb f.reference) (features_of m c)) e.source)
 
--- A graph from which a journal begins: numbers are places, and the next name is the first above all names of this form.
+-- A graph from which a journal begins: numbers are places, and the next name is the first above all
+-- names of this form.
 pub record IsOpening (m : Metamodel) (g : Graph) : Type 0 where
   pub typed : IsTyped m g
-  pub objects_numbered : map (λ object. object.number) g.objects ≡ range_with_len 0 (length g.objects)
+  pub objects_numbered : map (λ object. object.number) g.objects
+      ≡ range_with_len 0 (length g.objects)
   pub edges_numbered : map (λ edge. edge.number) g.edges ≡ range_with_len 0 (length g.edges)
   pub edges_in_order : EachPair (EdgeBefore m g) g.edges
   pub next_object : g.next_object ≡ length g.objects
   pub next_edge : g.next_edge ≡ length g.edges
-  pub next_name : (k : ℕ) → suc k ≡ g.next_name → Any (λ object. object.name ≡ hash_name k) g.objects
+  pub next_name : (k : ℕ) → suc k ≡ g.next_name
+      → Any (λ object. object.name ≡ hash_name k) g.objects

@@ -1,4 +1,5 @@
--- The form of units and of whole rule sets: what the check of a text promises of the set that it lets through.
+-- The form of units and of whole rule sets: what the check of a text promises of the set that it
+-- lets through.
 use Rattle.std.specs.Prelude.{ℕ, ◌≤◌, ◌≡◌, List, ◌++◌, map, length, true, Option, Some, None, IsSome, IsSomeAnd, slice_get}
 use Rattle.std.specs.List.{All, filter_map, find, list_any}
 use Rattle.std.specs.Option.{option_map}
@@ -38,45 +39,60 @@ abbrev pub params_of : List Rule → List RuleUnit → Callee → Option (List P
 params_of rules units (callee.Rule place) = option_map (λ rule. rule.params) (slice_get rules place)
 params_of rules units (callee.Unit place) = option_map (λ unit. unit.params) (slice_get units place)
 
--- What has the one kind can stand where the other is wanted: data of one kind, or an object of a class that conforms.
+-- What has the one kind can stand where the other is wanted: data of one kind, or an object of a
+-- class that conforms.
 abbrev pub KindFits : Metamodel → ParamKind → ParamKind → Type 0
 KindFits m (Data given) (Data wanted) = given ≡ wanted
 KindFits m (Object given) (Object wanted) = Conforms m given wanted
 KindFits m given wanted = ⊥
 
--- What a call gives to a parameter of this kind: a value of it, or what a parameter of the unit stands for, in or out.
+-- What a call gives to a parameter of this kind: a value of it, or what a parameter of the unit
+-- stands for, in or out.
 abbrev pub AtomFits : Metamodel → List Param → Atom → ParamKind → Type 0
 AtomFits m own (atom.Value v) wanted = Data (kind_of v) ≡ wanted
-AtomFits m own (atom.Name name) wanted = IsSomeAnd (param_named own name) (λ param. KindFits m param.kind wanted)
+AtomFits m own (atom.Name name) wanted =
+    IsSomeAnd (param_named own name) (λ param. KindFits m param.kind wanted)
 
--- Where a call puts what it gives back: an out parameter of the unit, for an object of a class that what comes back conforms to.
+-- Where a call puts what it gives back: an out parameter of the unit, for an object of a class that
+-- what comes back conforms to.
 abbrev pub GoalFits : Metamodel → ParamKind → Param → Type 0
 GoalFits m given goal = (goal.direction ≡ Out) × KindFits m given goal.kind
 
--- An in parameter of what is called is given what fits it, and what an out parameter gives back goes where it fits.
+-- An in parameter of what is called is given what fits it, and what an out parameter gives back
+-- goes where it fits.
 abbrev pub BindFits : Metamodel → List Param → List Param → Bind → Type 0
-BindFits m own params (Give name given) = IsSomeAnd (param_named params name) (λ param. (param.direction ≡ In) × AtomFits m own given param.kind)
-BindFits m own params (Take name variable) = IsSomeAnd (param_named params name) (λ param. (param.direction ≡ Out) × IsSomeAnd (param_named own variable) (GoalFits m param.kind))
+BindFits m own params (Give name given) =
+    IsSomeAnd (param_named params name)
+    (λ param. (param.direction ≡ In) × AtomFits m own given param.kind)
+BindFits m own params (Take name variable) =
+    IsSomeAnd (param_named params name) (λ param. (param.direction ≡ Out)
+    × IsSomeAnd (param_named own variable) (GoalFits m param.kind))
 
 -- The name of the parameter that a bind ties.
 abbrev pub bound_name : Bind → List ℕ
 bound_name (Give name given) = name
 bound_name (Take name variable) = name
 
--- The binds of a call of what has these parameters, inside a unit with its own: each ties a parameter of its own in a way that fits, and each in parameter is tied.
-pub record AreBinds (m : Metamodel) (own : List Param) (params : List Param) (binds : List Bind) : Type 0 where
+-- The binds of a call of what has these parameters, inside a unit with its own: each ties a
+-- parameter of its own in a way that fits, and each in parameter is tied.
+pub record AreBinds (m : Metamodel) (own : List Param) (params : List Param)
+    (binds : List Bind) : Type 0 where
   pub differ : Differ (map bound_name binds)
   pub fit : All (BindFits m own params) binds
-  pub all_given : All (λ param. param.direction ≡ In → list_any (λ bind. same_text (bound_name bind) param.name) binds ≡ true) params
+  pub all_given : All (λ param. param.direction ≡ In
+      → list_any (λ bind. same_text (bound_name bind) param.name) binds ≡ true) params
 
 -- What is called is there, and the binds fit it.
 abbrev pub CallFits : Metamodel → List Rule → List RuleUnit → List Param → Call → Type 0
-CallFits m rules units own call = IsSomeAnd (params_of rules units call.callee) (λ params. AreBinds m own params call.binds)
+CallFits m rules units own call =
+    IsSomeAnd (params_of rules units call.callee) (λ params. AreBinds m own params call.binds)
 
 -- A count by name is an in parameter of the unit, for a whole number.
 abbrev pub CountFits : List Param → Count → Type 0
 CountFits own (count.Literal n) = Unit {0}
-CountFits own (count.Param name) = IsSomeAnd (param_named own name) (λ param. (param.direction ≡ In) × (param.kind ≡ Data value.Int))
+CountFits own (count.Param name) =
+    IsSomeAnd (param_named own name)
+    (λ param. (param.direction ≡ In) × (param.kind ≡ Data value.Int))
 
 abbrev pub BodyFits : List Param → Body → Type 0
 BodyFits own (Iterated times call) = CountFits own times
@@ -88,7 +104,8 @@ UnitParamFits m param (Data kind) = param.direction ≡ In
 UnitParamFits m param (Object class) = IsSome (class_at m class)
 
 -- A unit among these rules and units. Its parameters have names of their own.
-pub record IsUnit (m : Metamodel) (rules : List Rule) (units : List RuleUnit) (unit : RuleUnit) : Type 0 where
+pub record IsUnit (m : Metamodel) (rules : List Rule) (units : List RuleUnit)
+    (unit : RuleUnit) : Type 0 where
   pub params_differ : Differ (map (λ param. param.name) unit.params)
   pub params_fit : All (λ param. UnitParamFits m param param.kind) unit.params
   pub calls_fit : All (CallFits m rules units unit.params) (calls_of unit.body)

@@ -14,15 +14,21 @@ use Rattle.hs_types.specs.MatchOrder.{IsEarlier}
 use Rattle.hs_types.specs.Pattern.{left_nodes}
 use Rattle.hs_types.specs.PlainMatch.{IsPlain, kernel_of}
 
--- The objects, and the edges, that a match drops: the kernel's first, then copy by copy, in written order.
+-- The objects, and the edges, that a match drops: the kernel's first, then copy by copy, in written
+-- order.
 abbrev pub all_dropped_nodes : Rule → Match → List ℕ
-all_dropped_nodes rule f = dropped_nodes rule.shape (kernel_of f) ++ flat_map (λ copy. dropped_nodes copy.multi.shape copy.found) (copies_of rule f)
+all_dropped_nodes rule f =
+    dropped_nodes rule.shape (kernel_of f)
+    ++ flat_map (λ copy. dropped_nodes copy.multi.shape copy.found) (copies_of rule f)
 
 abbrev pub all_dropped_edges : Rule → Match → List ℕ
-all_dropped_edges rule f = dropped_edges rule.shape (kernel_of f) ++ flat_map (λ copy. dropped_edges copy.multi.shape copy.found) (copies_of rule f)
+all_dropped_edges rule f =
+    dropped_edges rule.shape (kernel_of f)
+    ++ flat_map (λ copy. dropped_edges copy.multi.shape copy.found) (copies_of rule f)
 
 -- The rule can be applied here.
-pub record IsValid (m : Metamodel) (g : Graph) (rule : Rule) (args : Args) (f : Match) : Type 0 where
+pub record IsValid (m : Metamodel) (g : Graph) (rule : Rule) (args : Args)
+    (f : Match) : Type 0 where
   pub plain : IsPlain m g rule.shape (kernel_of f)
   pub follows : AllZip (Follows g args) (left_nodes rule.shape.nodes) f.nodes
   pub none_dangle : NoneDangle (all_dropped_nodes rule f) (all_dropped_edges rule f) g
@@ -38,23 +44,30 @@ abbrev pub NoneIsValid : Metamodel → Graph → Rule → Args → Type 0
 NoneIsValid m g rule args = (f : Match) → IsValid m g rule args f → ⊥
 
 -- It is valid, and no valid match is earlier.
-pub record IsLeast (m : Metamodel) (g : Graph) (rule : Rule) (args : Args) (f : Match) : Type 0 where
+pub record IsLeast (m : Metamodel) (g : Graph) (rule : Rule) (args : Args)
+    (f : Match) : Type 0 where
   pub valid : IsValid m g rule args f
   pub least : (h : Match) → IsValid m g rule args h → IsEarlier (kernel_of h) (kernel_of f) → ⊥
 
 -- What a search for the rule answers: the least valid match, or nothing where none is valid.
 abbrev pub IsFirst : Metamodel → Graph → Rule → Args → Option Match → Type 0
-IsFirst m g rule args answer = MatchOption answer (NoneIsValid m g rule args) (IsLeast m g rule args)
+IsFirst m g rule args answer =
+    MatchOption answer (NoneIsValid m g rule args) (IsLeast m g rule args)
 
 -- It is valid and comes after one, and none between is valid.
-pub record IsLeastAfter (m : Metamodel) (g : Graph) (rule : Rule) (args : Args) (after f : Match) : Type 0 where
+pub record IsLeastAfter (m : Metamodel) (g : Graph) (rule : Rule) (args : Args)
+    (after f : Match) : Type 0 where
   pub valid : IsValid m g rule args f
   pub later : IsEarlier (kernel_of after) (kernel_of f)
-  pub least : (h : Match) → IsValid m g rule args h → IsEarlier (kernel_of after) (kernel_of h) → IsEarlier (kernel_of h) (kernel_of f) → ⊥
+  pub least : (h : Match) → IsValid m g rule args h → IsEarlier (kernel_of after) (kernel_of h)
+      → IsEarlier (kernel_of h) (kernel_of f) → ⊥
 
 abbrev pub NoneIsAfter : Metamodel → Graph → Rule → Args → Match → Type 0
-NoneIsAfter m g rule args after = (f : Match) → IsValid m g rule args f → IsEarlier (kernel_of after) (kernel_of f) → ⊥
+NoneIsAfter m g rule args after =
+    (f : Match) → IsValid m g rule args f → IsEarlier (kernel_of after) (kernel_of f) → ⊥
 
--- What a search answers behind a match: the next valid one in order, or nothing where no later one is valid.
+-- What a search answers behind a match: the next valid one in order, or nothing where no later one
+-- is valid.
 abbrev pub IsNext : Metamodel → Graph → Rule → Args → Match → Option Match → Type 0
-IsNext m g rule args after answer = MatchOption answer (NoneIsAfter m g rule args after) (IsLeastAfter m g rule args after)
+IsNext m g rule args after answer =
+    MatchOption answer (NoneIsAfter m g rule args after) (IsLeastAfter m g rule args after)

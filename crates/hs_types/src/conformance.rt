@@ -12,7 +12,8 @@ use hs_expr::{List, Text};
 use std::marker::Model;
 
 /// A metamodel with its conformance closed, so that one look tells whether a class conforms to
-/// another. Contracts see it as the plain [`Metamodel`]; [`Meta::is_metamodel`] says that it is one.
+/// another. Contracts see it as the plain [`Metamodel`]; [`Meta::is_metamodel`] says that it is
+/// one.
 #[derive(Debug, Drop)]
 pub struct Meta {
     plain: Metamodel,
@@ -32,7 +33,9 @@ impl Model for Meta {
 
     ghost view = { λ meta. meta.plain };
 
-    ghost invariant = { λ meta. ∥ IsMeta meta.plain × IsSmallMeta meta.plain ∥₁ × (meta.rows ≡ supertypes.reach_rows (supers_of meta.plain)) × (length meta.plain.classes ≤ MAX_CLASSES) };
+    ghost invariant = { λ meta. ∥ IsMeta meta.plain × IsSmallMeta meta.plain ∥₁
+        × (meta.rows ≡ supertypes.reach_rows (supers_of meta.plain))
+        × (length meta.plain.classes ≤ MAX_CLASSES) };
 }
 
 impl Meta {
@@ -106,7 +109,8 @@ impl Meta {
 
     /// Whether it is a concrete class that conforms to both.
     fn is_common(&self, class: usize, one: ClassNo, other: ClassNo) -> bool
-        ensures { IsTrue result ↔ (IsConcrete self.now class × Conforms self.now class one × Conforms self.now class other) }
+        ensures { IsTrue result ↔ (IsConcrete self.now class × Conforms self.now class one
+            × Conforms self.now class other) }
     {
         self.is_concrete(class) && self.is_under(class, one) && self.is_under(class, other)
     }

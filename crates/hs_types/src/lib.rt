@@ -3,8 +3,8 @@
 //!
 //! Every type here is a struct or enum with public fields, so contracts and definitions see records
 //! of lists, numbers and texts. Things are named by numbers: an object or an edge of a graph by the
-//! number that it was given when it came ([`ObjectNo`], [`EdgeNo`]), everything else by its place in
-//! the list that holds it.
+//! number that it was given when it came ([`ObjectNo`], [`EdgeNo`]), everything else by its place
+//! in the list that holds it.
 #![tactic(auto)]
 
 mod additions;

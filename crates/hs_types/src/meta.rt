@@ -6,7 +6,8 @@ pub type ClassNo = u16;
 /// The place of a feature in its metamodel.
 pub type FeatureNo = u16;
 
-/// A metamodel as plain data, after Ecore: classes, and the attributes and references that they own.
+/// A metamodel as plain data, after Ecore: classes, and the attributes and references that they
+/// own.
 #[derive(Debug, Drop)]
 pub struct Metamodel {
     /// The version of the metamodel's meaning: 1 reads bounds and containment, and guards neither.

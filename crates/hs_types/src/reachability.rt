@@ -58,7 +58,8 @@ fn one_step_more(
     d: usize,
     marks: &[bool],
 ) -> Result<List<bool>, AllocError>
-    ensures { IfOk result (λ more. more ≡ map (list_any (spec.is_or_reaches d marks.now)) supers.now) }
+    ensures { IfOk result
+        (λ more. more ≡ map (list_any (spec.is_or_reaches d marks.now)) supers.now) }
 {
     let mut more = List::new(alloc);
     for numbers in supers {
@@ -91,7 +92,8 @@ fn is_marked(marks: &[bool], s: usize) -> bool
 /// Whether `v` reaches `w`, by the rows of their graph.
 #[tactic(auto, using(crate::proofs::Paths::row_at))]
 pub fn reaches(rows: &[List<bool>], c: usize, d: usize) -> bool
-    ensures { (supers : _) → rows.now ≡ spec.reach_rows supers → d < length supers → result ≡ spec.reaches supers c d }
+    ensures { (supers : _) → rows.now ≡ spec.reach_rows supers → d < length supers
+        → result ≡ spec.reaches supers c d }
 {
     is_in_row(rows, c, d)
 }

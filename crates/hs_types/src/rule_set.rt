@@ -15,5 +15,6 @@ pub struct RuleSet {
     pub units: List<Unit>,
     /// What the check promises: the rules and units are in their form, over a metamodel.
     /// [`rule_sets_are_formed`] says it without the truncation.
-    pub ghost formed: { ∥ IsMeta (arc_value meta) × IsSmallMeta (arc_value meta) × IsRuleSet (arc_value meta) rules units ∥₁ },
+    pub ghost formed: { ∥ IsMeta (arc_value meta) × IsSmallMeta (arc_value meta)
+        × IsRuleSet (arc_value meta) rules units ∥₁ },
 }
