@@ -15,7 +15,7 @@ consumes_more (Some x) None c xs ys h k = absurd h
 consumes_more (Some x) (Some y) None xs ys h k = absurd k
 consumes_more (Some x) (Some y) (Some z) xs ys h k = h ∙ ap (λ w. xs ++ w) k ∙ sym (append_assoc xs ys z)
 
--- What stands behind a front, cut once more.
+-- What follows a prefix, cut once more.
 pub cut : (front rest : List ℕ) (n : ℕ) → front ++ rest ≡ (front ++ take n rest) ++ take (length rest - n) (drop n rest)
 cut front rest n = rw (take_rest rest n, append_assoc, take-append-drop n rest) refl
 

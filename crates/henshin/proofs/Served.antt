@@ -146,7 +146,7 @@ can_run m g rules units sessions request only sound set =
 
 -- ---- bytes that were read
 
--- What is so of the bytes that were read is so of those that were left, where they are told.
+-- What is so of the bytes that were read is so of those that were left, where they are reported.
 pub refused_left : (left : Option (List ℕ)) (Rest : List ℕ → Type 0) (read : List ℕ) (refusal : Refusal) → IfSome left (λ bytes. (read ≡ bytes) × Rest bytes) → Refuses read refusal → IfSome left (λ bytes. Refuses bytes refusal)
 refused_left None Rest read refusal whole why = tt
 refused_left (Some bytes) Rest read refusal whole why = subst (λ (bs : List ℕ). Refuses bs refusal) whole.0 why

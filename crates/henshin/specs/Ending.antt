@@ -27,22 +27,22 @@ IsReadToEnd status.ReadFault = ⊥
 IsReadToEnd status.TooLong = ⊥
 IsReadToEnd status.NoMemory = ⊥
 
--- The sink gained this front of the text.
+-- The sink gained a prefix of the text.
 abbrev pub GainsFront : List ℕ → Option (List ℕ) → Option (List ℕ) → Type 0
 GainsFront text old new = (front rest : List ℕ) × (text ≡ front ++ rest) × Appends old new front
 
--- Where all is well the sink gained the whole text, and else a front of it.
+-- After a complete run the sink gained the text, after a write fault a prefix of it.
 abbrev pub Writes : Status → List ℕ → Option (List ℕ) → Option (List ℕ) → Type 0
 Writes status.Done text old new = Appends old new text
 Writes status.WriteFault text old new = GainsFront text old new
 Writes _ text old new = ⊥
 
--- A run that came to its writing: the bytes are those that the source had left, where it tells
--- them; report and text are what the command gives for them; and the text was written.
+-- A run that began to write: the bytes are those that the source had left, where it reports them;
+-- report and text are what the command gives for them; and the text was written.
 pub record IsRun (command : Command) (ending : Status) (report : Option Report)
     (left old new : Option (List ℕ)) : Type 0 where
   pub bytes : List ℕ
   pub text : List ℕ
-  pub all_that_was_left : IfSome left (λ told. told ≡ bytes)
+  pub all_that_was_left : IfSome left (λ reported. reported ≡ bytes)
   pub gives : IsOutput command bytes report text
   pub is_written : Writes ending text old new

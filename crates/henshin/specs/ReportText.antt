@@ -85,7 +85,7 @@ what_members rules (what.Group attempts done) =
     (codes "attempts", list_data (λ t. object_data (tried_members rules t)) attempts)
     ∷ (codes "done", boolean done) ∷ []
 
--- Where an entry stands, and whose it is.
+-- An entry's place, and the request that it belongs to.
 abbrev pub place_members : ℕ → Entry → List Member
 place_members place e =
     (codes "place", number_data place) ∷ (codes "request", number_data e.request)

@@ -1,4 +1,4 @@
--- The number that each status ends with, and the line that tells it.
+-- The exit status of each way to end, and the line that reports it.
 use Rattle.std.specs.Prelude.{ℕ, List, codes, Option, Some, None}
 use Rattle.hs_json.specs.declared.fault.BundleFault.{BundleFault}
 use Rattle.hs_faults.specs.declared.fault.Within.{Within}

@@ -10,7 +10,7 @@ use std::alloc::{AllocError, Global};
 /// How a run of the program ended.
 #[derive(Debug, Drop)]
 pub enum Status {
-    /// The whole text was written.
+    /// The text was written.
     Done,
     /// The command line isn't one that the program knows.
     Usage,

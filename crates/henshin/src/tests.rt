@@ -269,7 +269,7 @@ fn plain() -> Setting {
     }
 }
 
-/// What a run told and wrote.
+/// What a run reported and wrote.
 #[derive(Drop)]
 struct Ended {
     number: u8,
@@ -280,11 +280,11 @@ struct Ended {
 
 impl Ended {
     fn is(&self, number: u8, line: &str, written: &str) -> bool {
-        let told = match &self.line {
-            Some(told) => told.as_str(),
+        let reported = match &self.line {
+            Some(line) => line.as_str(),
             None => "",
         };
-        self.number == number && told == line && self.written.as_slice() == written.as_bytes()
+        self.number == number && reported == line && self.written.as_slice() == written.as_bytes()
     }
 }
 

@@ -4,7 +4,7 @@ ghost use Rattle.hs_base.specs.Faults.{one_more};
 
 use hs_base::{Failed, Sink};
 
-/// Writes the whole text. Each write offers all that is left of it.
+/// Writes the text. Each write offers all that is left of it.
 pub fn write_all<K: Sink>(sink: &mut K, text: &[u8]) -> Result<(), Failed>
     ensures whole { OnOk result (Appends (K.written sink.old) (K.written sink.new) text.now) }
     ensures well { OnOk result (K.faults sink.new ≡ K.faults sink.old) }

@@ -113,7 +113,7 @@ fn is_made(nodes: &[PatternNode], node: u16) -> bool
     }
 }
 
-/// How many made nodes stand before this one.
+/// How many made nodes come before this one.
 fn made_before(nodes: &[PatternNode], node: u16) -> u32
     ensures { result ≡ length (made_nodes (take node nodes.now)) }
 {

@@ -1,6 +1,6 @@
 use Rattle.std.specs.Prelude.{ℕ, ◌+◌, ◌-◌, ◌^◌, min, Result, Ok, Err}
 
--- One more, up to the greatest number of 64 bits, at which a count stands still.
+-- One more, up to the greatest number of 64 bits, at which a count stays.
 abbrev pub one_more : ℕ → ℕ
 one_more n = min (n + 1) (2 ^ 64 - 1)
 

@@ -11,7 +11,7 @@ no_calls fails = record { fails = fails; made = 0; faults = 0; failed = false }
 abbrev pub is_due : List ℕ → ℕ → Bool
 is_due fails call = list_any (λ n. n == call) fails
 
--- The calls, with one more that failed or not. Their number stands still at 2^32 - 1.
+-- The calls, with one more that failed or not. Their number stays at 2^32 - 1.
 abbrev pub calls_after : Bool → Calls → Calls
 calls_after failed calls = record {
   fails = calls.fails;

@@ -9,13 +9,13 @@ pub struct Failed;
 
 /// Something that bytes are read from.
 pub trait Source {
-    /// How many of its calls have failed. The count stands still at 2^64 - 1.
+    /// How many of its calls have failed. The count stays at 2^64 - 1.
     ghost faults: { Self → ℕ };
 
     /// Whether its last call failed.
     ghost failed: { Self → Bool };
 
-    /// The bytes that it has left, where it tells them.
+    /// The bytes that it has left, where it reports them.
     ghost left: { Self → Option (List ℕ) };
 
     /// Moves some of the bytes that are left to the front of `into`, and says how many. For an
@@ -29,13 +29,13 @@ pub trait Source {
 
 /// Something that bytes are written to.
 pub trait Sink {
-    /// How many of its calls have failed. The count stands still at 2^64 - 1.
+    /// How many of its calls have failed. The count stays at 2^64 - 1.
     ghost faults: { Self → ℕ };
 
     /// Whether its last call failed.
     ghost failed: { Self → Bool };
 
-    /// The bytes that have been written to it, where it tells them.
+    /// The bytes that have been written to it, where it reports them.
     ghost written: { Self → Option (List ℕ) };
 
     /// Appends the front of `piece`, and says how many of its bytes: at least one, where it has

@@ -10,7 +10,7 @@ use hs_expr::List;
 use std::alloc::{AllocError, Global};
 use std::marker::Model;
 
-/// A sink in memory, which tells what was written. It takes at most `piece` bytes at a write, and
+/// A sink in memory, which reports what was written. It takes at most `piece` bytes at a write, and
 /// fails where these would pass its room, and at the calls whose numbers it was given; the first
 /// call has the number 1.
 #[derive(Debug, Drop)]

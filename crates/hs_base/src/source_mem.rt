@@ -9,7 +9,7 @@ use crate::{Failed, Source};
 use hs_expr::List;
 use std::marker::Model;
 
-/// A source in memory, which tells its bytes. It moves at most `piece` bytes at a read, and fails
+/// A source in memory, which reports its bytes. It moves at most `piece` bytes at a read, and fails
 /// at the calls whose numbers it was given; the first call has the number 1.
 #[derive(Debug, Drop)]
 pub struct SourceMem {

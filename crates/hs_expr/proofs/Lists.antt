@@ -211,7 +211,7 @@ AllZip-append R [] ys (m ∷ ms) ns a b = absurd a
 AllZip-append R (x ∷ xs) ys [] ns a b = absurd a
 AllZip-append R (x ∷ xs) ys (m ∷ ms) ns a b = (a.0, AllZip-append R xs ys ms ns a.1 b)
 
--- What stands beside those that pass is among what stands there.
+-- What is beside those that pass is among what is there.
 pub beside-has : {A : Type 0} (q : A → Bool) (xs : List A) (ns : List ℕ) (n : ℕ) → has (beside q xs ns) n ≡ true → has ns n ≡ true
 beside-has q [] ns n h = absurd (both_ways false refl h)
 beside-has q (x ∷ xs) [] n h = h
@@ -301,7 +301,7 @@ pub EachPair-known : {A : Type 0} (P : A → Type 0) (R S : A → A → Type 0) 
 EachPair-known P R S f [] a p = tt
 EachPair-known P R S f (x ∷ xs) a p = (All-weaker (λ y. P y × R x y) (S x) (λ y i. f x y (All-head P x xs a) i.0 i.1) xs (All-both P (R x) xs (All-tail P x xs a) p.0), EachPair-known P R S f xs (All-tail P x xs a) p.1)
 
--- A number that stands in a list that differs from a second.
+-- A number that is in a list that differs from a second.
 pub Differ-across : (ms ns : List ℕ) (n : ℕ) → Differ (ms ++ ns) → has ms n ≡ true → has ns n ≡ false
 Differ-across ms ns n d h = Differ-apart n ns (All-has (λ m. All (λ k. m ≡ k → ⊥) ns) ms n (EachPair-across (λ x y. x ≡ y → ⊥) ms ns d) h)
 

@@ -179,7 +179,7 @@ pub record IsComplete (env : Env) (scope : Scope) : Type 0 where
   pub params : (n : ℕ) (k : Kind) → scope.param n ≡ Some k
       → (v : Value) × (env.param n ≡ Some v) × (kind_of v ≡ k)
 
--- How many operators stand on one path down the level, beside those of its operands.
+-- The depth of an expression of this form, from the depths of its operands.
 abbrev pub nesting_of_level : Expr-F ℕ → ℕ
 nesting_of_level (Expr-F.Literal v) = 0
 nesting_of_level (Expr-F.Slot read) = 0

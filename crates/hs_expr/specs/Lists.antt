@@ -30,7 +30,7 @@ Rise low (n ∷ ns) high = (low ≤ n) × Rise (n + 1) ns high
 abbrev pub same_text : List ℕ → List ℕ → Bool
 same_text = pointwise nat_eq
 
--- Each number once, where it first stands.
+-- Each number once, at its first place.
 abbrev pub each_once : List ℕ → List ℕ
 each_once [] = []
 each_once (n ∷ ns) = n ∷ filter (λ k. not (eqb k n)) (each_once ns)
@@ -45,7 +45,7 @@ places_from i test (x ∷ xs) =
 abbrev pub places : {A : Type 0} → (A → Bool) → List A → List ℕ
 places test xs = places_from 0 test xs
 
--- What stands in the second list beside those items of the first that pass the test.
+-- The items of the second list at whose places the first has an item that passes the test.
 abbrev pub beside : {A B : Type 0} → (A → Bool) → List A → List B → List B
 beside test [] ys = []
 beside test (x ∷ xs) [] = []

@@ -3,7 +3,7 @@
 //! Texts, lists and stacks that contracts see as plain lists ([`Text`], [`List`], [`Stack`]), the
 //! traits that give derived clones and comparisons their meaning in clauses ([`Plain`], [`Exact`]),
 //! attribute values ([`Value`], [`Kind`]), checked expressions ([`Expr`]), expressions by names as
-//! a text has them ([`NameExpr`]), the loop that tells the first fault of a list ([`check_each`]),
+//! a text has them ([`NameExpr`]), the loop that gives the first fault of a list ([`check_each`]),
 //! and why a call gives no value ([`Failure`]).
 #![tactic(auto)]
 

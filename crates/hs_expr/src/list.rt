@@ -51,7 +51,7 @@ impl<T> List<T> {
         inner
     }
 
-    /// Puts an item at the end. Where memory is wanting the list is as before.
+    /// Puts an item at the end. Out of memory, the list is as before.
     pub fn push(&mut self, item: T) -> Result<(), AllocError>
     where
         T: Drop,

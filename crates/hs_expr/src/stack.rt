@@ -31,7 +31,7 @@ impl<T> Stack<T> {
         }
     }
 
-    /// Puts an item on top. Where memory is wanting the stack is as before.
+    /// Puts an item on top. Out of memory, the stack is as before.
     #[tactic(auto, using(crate::proofs::Stacks::turned))]
     pub fn push(&mut self, item: T) -> Result<(), AllocError>
     where

@@ -20,7 +20,7 @@ use Rattle.hs_graph.specs.Problems.{Contains, IsInside, by_way_of, containment_l
 use Rattle.hs_graph.proofs.Slots.{found}
 use Rattle.hs_expr.proofs.Items.{All-at}
 
--- Two tests one behind the other.
+-- Two tests in order.
 pub filter-both : {A : Type 0} (p q : A → Bool) (xs : List A) → filter q (filter p xs) ≡ filter (λ x. p x && q x) xs
 filter-both p q [] = refl
 filter-both {A} p q (x ∷ xs) = go (p x) (q x) (filter-both p q xs)

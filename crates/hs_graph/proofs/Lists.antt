@@ -6,7 +6,7 @@ use Rattle.hs_types.specs.declared.meta.Metamodel.{Metamodel}
 use Rattle.hs_graph.specs.declared.raw.RawObject.{RawObject}
 use Rattle.hs_graph.specs.Lookups.{class_of_object, classes_of_objects}
 
--- The class that stands beside an object.
+-- The class that is beside an object.
 pub class_at_place : (m : Metamodel) (objects : List RawObject) (classes : List ℕ) (i : ℕ) (object : RawObject) → classes ≡ classes_of_objects m objects → slice_get objects i ≡ Some object → get_or classes i 0 ≡ class_of_object m object
 class_at_place m objects classes i object are at =
     let within = slice_get_within objects i object at in

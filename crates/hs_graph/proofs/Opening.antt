@@ -65,7 +65,7 @@ range-rises : (n k high : ℕ) → n + k ≡ high → Rise n (range_with_len n k
 range-rises n zero high e = omega arith
 range-rises n (suc k) high e = (le_refl n, range-rises (n + 1) k high (omega arith))
 
--- The objects of these places, as they stand in a longer list.
+-- The objects of these places, as they are in a longer list.
 abbrev StandAt : ℕ → List RawObject → List RawObject → Type 0
 StandAt n vs ws = (k : ℕ) (v : RawObject) → slice_get vs k ≡ Some v → slice_get ws (n + k) ≡ Some v
 
@@ -141,7 +141,7 @@ next-there m n k (w ∷ ws) e = go (next-there m (n + 1) k ws) (larger-is (next_
     go later (inl here) = (0, object_of_raw m n w, omega arith, refl, hash-after w.name k here)
     go later (inr there) = let rest = later (sym there) in (suc rest.0, rest.1, omega (arith, rest.2), rest.3, rest.4)
 
--- ---- what stands in the graph
+-- ---- what is in the graph
 
 -- The objects of the graph are these.
 abbrev HasObjects : Metamodel → List RawObject → Graph → Type 0

@@ -21,7 +21,7 @@ eqb_suc_as a b false e = ne_eqb (suc a) (suc b) (λ q. eqb-false a b e (omega (a
 eqb_suc : (a b : ℕ) → eqb (suc a) (suc b) ≡ eqb a b
 eqb_suc a b = eqb_suc_as a b (eqb a b) refl
 
--- One edge more at a place, and at the others what stood there.
+-- One edge more at a place, and at the others what was there.
 pub near_more : {V E : Type 0} (near : List V) (view : V → List E) (place n : ℕ) (row d : V) (e : E) (far : List E) → place < length near → view row ≡ view (get_or near place d) ++ e ∷ [] →
     unwrap_or (option_map view (slice_get (set near place row) n)) far ≡ unwrap_or (option_map view (slice_get near n)) far ++ cond (eqb place n) (e ∷ []) []
 near_more [] view place n row d e far h pushed = absurd (omega (arith, h))

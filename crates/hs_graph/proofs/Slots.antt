@@ -28,7 +28,7 @@ use Rattle.hs_expr.proofs.Items.{All-at, has_at}
 
 -- ---- items of lists
 
--- What is found passes, and stands somewhere.
+-- What is found passes, and is somewhere.
 pub record Found {A : Type 0} (p : A → Bool) (xs : List A) (x : A) : Type 0 where
   pub passes : p x ≡ true
   pub place : ℕ

@@ -1,4 +1,4 @@
--- What the names in written objects stand for: classes and features of a metamodel, and objects.
+-- What the names in written objects denote: classes and features of a metamodel, and objects.
 use Rattle.std.specs.Prelude.{ℕ, List, map, Bool, false, is_some, ◌&&◌, Option}
 use Rattle.std.specs.List.{find, position}
 use Rattle.std.specs.Option.{option_map_or, unwrap_or}

@@ -1,4 +1,4 @@
-//! What names stand for in a metamodel.
+//! What names denote in a metamodel.
 
 ghost use Rattle.std.specs.Prelude.{◌≡◌, option_copied};
 ghost use Rattle.std.specs.List.{find};

@@ -1,4 +1,4 @@
--- Answers that tell why bytes are refused.
+-- Answers that say why bytes are refused.
 use Rattle.std.proofs.Common.{ℕ, ◌≡◌, List, Result, Ok, Err, IfOk, IsErrAnd, refl, subst}
 use Rattle.hs_expr.specs.declared.failure.Failure.{Failure}
 use Rattle.hs_expr.specs.declared.failure.Failure.TheVariants as failed
@@ -16,7 +16,7 @@ handed_on bytes (Err (failed.Fault refusal)) (Err (failed.Fault other)) failure 
 handed_on bytes (Err failed.NoMemory) (Err (failed.Fault other)) failure is came told = absurd (cc)
 handed_on bytes (Err (failed.Fault refusal)) (Err failed.NoMemory) failure is came told = tt
 
--- A fault that is told as a refusal has its cause.
+-- A fault that is reported as a refusal has its cause.
 pub told_as : {X F : Type 0} (bytes : List ℕ) (wrap : F → Refusal) (answer : Result X (Failure F)) →
     ((fault : F) → answer ≡ Err (failed.Fault fault) → Refuses bytes (wrap fault)) → Tells bytes (failing_as wrap answer)
 told_as bytes wrap (Ok x) cause = tt

@@ -33,7 +33,8 @@ pub record IsBuilt (bytes : List ℕ) (held : Contents) (syntax : Syntax)
   pub is_read : IsRead bytes held syntax
   pub is_asked : asked held syntax ≡ Some sessions
 
--- The same of an input, which has what the syntax means, and the metamodel behind shared pointers.
+-- The same of an input, which has the rules and units that the syntax denotes, and the metamodel in
+-- shared pointers.
 pub record IsInput (bytes : List ℕ) (held : Contents) (input : Input) : Type 0 where
   pub is_built : IsBuilt bytes held input.syntax input.sessions
   pub is_meant : IsMeant held.meta input.syntax.definitions input.rules

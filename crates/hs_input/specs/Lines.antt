@@ -17,7 +17,7 @@ abbrev pub rule_front : Within → List ℕ
 rule_front Unit = codes "henshin: bad-unit "
 rule_front Rule = codes "henshin: bad-rule "
 
--- The line that tells a refusal.
+-- The line that reports a refusal.
 abbrev pub refusal_line : Refusal → List ℕ
 refusal_line (NoBundle fault) = bundle_fault_line fault
 refusal_line (BadText line column kind) =

@@ -1,5 +1,5 @@
--- Why bytes are refused: each refusal with its cause. What comes first is told: the bundle, its
--- text of rules, the rules and units, and what isn't built.
+-- Why bytes are refused: each refusal with its cause. The order of causes is: the bundle, its text
+-- of rules, the rules and units, and what isn't built.
 use Rattle.std.specs.Prelude.{ℕ, ◌≡◌, List, None, Result, Ok, Err}
 use Rattle.std.specs.Str.{chars}
 use Rattle.hs_expr.specs.declared.failure.Failure.{Failure}

@@ -4,7 +4,7 @@
 //! [`read_input`] gives all of it, or the first [`Refusal`]: the bundle's own fault, the first
 //! fault of its text, the first fault of its rules and units, or that it asks for what isn't built.
 //! `specs/Refusing.antt` says each refusal's cause, [`refused_once`] that there is one at most, and
-//! [`Refusal::line`] is the line that tells it.
+//! [`Refusal::line`] is the line that reports it.
 #![tactic(auto)]
 
 mod laws;

@@ -10,7 +10,7 @@ use hs_faults::{RuleFault, Within};
 use std::alloc::{AllocError, Global};
 
 impl Refusal {
-    /// The line that tells the refusal, without its end.
+    /// The line that reports the refusal, without its line feed.
     pub fn line(&self, alloc: Global) -> Result<Text, AllocError>
         ensures { IfOk result (λ line. line ≡ spec.refusal_line self.now) }
     {

@@ -39,7 +39,7 @@ pub struct Input {
     pub sessions: List<List<Request>>,
 }
 
-/// Reads what the bytes hold, or tells why they are refused.
+/// Reads what the bytes hold, or says why they are refused.
 pub fn read_input(alloc: Global, bytes: &[u8]) -> Result<Input, Failure<Refusal>>
     ensures read { IfOk result (λ input. (held : Contents) × IsInput bytes.now held input) }
     ensures sound { IfOk result (λ input. IsSound (arc_value input.graph.meta) input.graph.graph) }

@@ -73,7 +73,7 @@ contents_of d = do
     journal = get (codes "journal") d;
   })
 
--- What this bundle holds; its metamodel is behind a shared pointer.
+-- The contents of this bundle, whose metamodel is in a shared pointer.
 abbrev pub contents : Bundle → Contents
 contents bundle = record {
   meta = arc_value bundle.graph.meta;

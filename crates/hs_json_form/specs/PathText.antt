@@ -10,7 +10,7 @@ abbrev pub step_text : Step → List ℕ
 step_text (Key key) = 47 ∷ key
 step_text (Place place) = 47 ∷ decimal place
 
--- The steps in order; a slash for the whole.
+-- The steps in order; a slash for the value itself.
 abbrev pub path_text : List Step → List ℕ
 path_text [] = 47 ∷ []
 path_text (step ∷ steps) = flat_map step_text (step ∷ steps)

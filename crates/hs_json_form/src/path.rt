@@ -32,7 +32,7 @@ impl Model for Path {
 }
 
 impl Path {
-    /// The path of the whole.
+    /// The path of the value itself.
     pub fn new(alloc: Global) -> Path
         ensures { result ≡ [] }
     {
@@ -50,7 +50,7 @@ impl Path {
         Ok(Path { reversed })
     }
 
-    /// The steps, each after a slash; only `/` for the whole. Keys are written as they are.
+    /// The steps, each after a slash; only `/` for the value itself. Keys are written as they are.
     pub fn text(&self, alloc: Global) -> Result<Text, AllocError>
         ensures { IfOk result (λ text. text ≡ spec.path_text self.now) }
     {

@@ -108,7 +108,7 @@ references_listed m targets (f ∷ fs) = go (is_used (targets f)) refl (referenc
 
 -- ---- objects
 
--- An object as it stands in its line: its slots and its references by the order of their names, without references that have no target.
+-- An object as it is in its line: its slots and its references by the order of their names, without references that have no target.
 abbrev pub attrs_written : Metamodel → List Slot → List RawAttr
 attrs_written m slots = map (attr_written m) (sorted (λ slot. feature_name m slot.attribute) slots)
 

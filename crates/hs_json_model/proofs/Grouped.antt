@@ -1,4 +1,4 @@
--- Items that stand in the order of their keys, grouped by key.
+-- Items that are in the order of their keys, grouped by key.
 use Rattle.std.proofs.Common.{ℕ, ◌≡◌, ◌⊎◌, inl, inr, ◌||◌, ◌++◌, List, [], ◌∷◌, Bool, true, false, not, cond, eqb, refl, ap, sym, ◌∙◌, subst}
 use Rattle.std.proofs.lemmas.Bool.{eqb-true, eq-eqb, false≢true, ne_eqb}
 use Rattle.std.proofs.lemmas.List.Elements.{All-head, All-tail, All-weaker}
@@ -18,7 +18,7 @@ fails_too : (a b : Bool) → (b ≡ true → a ≡ true) → a ≡ false → b �
 fails_too a true h e = absurd (false≢true (sym e ∙ h refl))
 fails_too a false h e = refl
 
--- Those that pass, and then the others, where none that passes stands behind one of the others.
+-- Those that pass, and then the others, where none that passes follows one of the others.
 parted : {A : Type 0} (p : A → Bool) (xs : List A) → EachPair (λ x y. p y ≡ true → p x ≡ true) xs → filter p xs ++ filter (λ x. not (p x)) xs ≡ xs
 parted p [] pairs = refl
 parted {A} p (x ∷ xs) pairs = go (p x) refl (parted p xs pairs.1)
@@ -49,7 +49,7 @@ other : (a b : Bool) → (a || b) ≡ true → not a ≡ true → b ≡ true
 other true b h e = absurd (false≢true e)
 other false b h e = h
 
--- Where items stand in the order of their keys, key after key they are the same.
+-- Where items are in the order of their keys, key after key they are the same.
 pub grouped : {A : Type 0} (R : ℕ → ℕ → Type 0) (key : A → ℕ) (ns : List ℕ) (xs : List A) → Differ ns → EachPair (λ n k. R k n → ⊥) ns → All (λ x. has ns (key x) ≡ true) xs → EachPair (λ x y. R (key x) (key y)) xs →
     flat_map (λ n. filter (λ x. eqb (key x) n) xs) ns ≡ xs
 grouped R key [] [] d r all pairs = refl

@@ -1,4 +1,4 @@
--- What a name in a written graph stands for is found again.
+-- What a name in a written graph denotes is found again.
 use Rattle.std.proofs.Common.{ℕ, zero, suc, ◌+◌, ◌<◌, ◌≡◌, ◌&&◌, ◌||◌, List, [], ◌∷◌, Bool, true, false, cond, map, find, eqb, ltb, length, take, Option, Some, None, slice_get, refl, ap, sym, ◌∙◌, subst, arith, rules}
 use Rattle.std.proofs.lemmas.Bool.{and_parts, eqb-true, eq-eqb, false≢true}
 use Rattle.std.proofs.lemmas.List.Elements.{All-head, All-tail}

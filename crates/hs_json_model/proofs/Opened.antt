@@ -121,7 +121,7 @@ link_same m g n f (e ∷ es) is all =
     link : ℕ → ℕ → ℕ → Link
     link s r t = record { source = s; reference = r; target = t }
 
--- The edges from an object stand in the order of its class's features.
+-- The edges from an object are in the order of its class's features.
 object_same : (m : Metamodel) (g : Graph) (o : Object) → IsMeta m → IsOpening m g → object_at g o.number ≡ Some o → links_at m g o.number o ≡ map as_link (edges_leaving g o.number)
 object_same m g o meta is at =
     flat_map-same (λ f. map (link_between g o.number f) (edges_by es f)) (λ f. map as_link (edges_by es f)) fs

@@ -40,7 +40,7 @@ named_reference m k t = go (feature_at m k) t
     go None e = absurd (false≢true e)
     go (Some feature) e = refl
 
--- It stands, and is a reference.
+-- It is there, and is a reference.
 pub reference_there : (m : Metamodel) (f : ℕ) → is_some (target_of m f) ≡ true → (feature : Feature) × (feature_at m f ≡ Some feature) × (is_reference feature ≡ true)
 reference_there m f t = go (feature_at m f) refl
   where

@@ -40,7 +40,7 @@ link_between g source reference e = record {
 }
 
 -- The edges that begin at an object of this place: reference by reference in the order of its
--- class, and those of one reference in the order that they stand in.
+-- class, and those of one reference in their order.
 abbrev pub links_at : Metamodel → Graph → ℕ → Object → List Link
 links_at m g place object =
     flat_map (λ f. map (link_between g place f) (edges_by (edges_leaving g object.number) f))

@@ -22,7 +22,7 @@ use Rattle.hs_graph.specs.Problems.{edges_leaving}
 abbrev pub Member : Type 0
 Member = List ℕ × Data
 
--- The members, with these put among them: an object's keys stand in byte order, each once.
+-- The members, with these put among them: an object's keys are in byte order, each once.
 abbrev pub with_members : Members → List Member → Members
 with_members ms [] = ms
 with_members ms (m ∷ more) = with_members (put m.0 m.1 ms) more

@@ -1,4 +1,4 @@
-//! Typed graphs, read whole.
+//! Typed graphs, read from a JSON value.
 
 ghost use Rattle.std.specs.Prelude.{◌≡◌, ◌∷◌, [], codes, IfOk};
 ghost use Rattle.serde_json.specs.View.{view};

@@ -1,4 +1,4 @@
-//! Metamodels, read whole.
+//! Metamodels, read from a JSON value.
 
 ghost use Rattle.std.specs.Prelude.{◌≡◌, ◌∷◌, [], IfOk};
 ghost use Rattle.serde_json.specs.View.{view};

@@ -64,7 +64,7 @@ feature-down m f w c d (above e i k s r) h = super-feature m c i f w s (feature-
 pub attribute-down : (m : Metamodel) (a : ℕ) → IsMeta m → GoesDown m (λ c. has (attributes_of m c) a ≡ true)
 attribute-down m a w c d k h = let was = has-filter (λ f. is_some (type_of m f)) (features_of m d) a h in has-kept (λ f. is_some (type_of m f)) (features_of m c) a (feature-down m a w c d k was.0) was.1
 
--- What goes down holds where an object of the class stands.
+-- What goes down along conformance holds at each object of the class.
 pub Stands-down : (m : Metamodel) (g : Graph) (P : ℕ → Type 0) (class n : ℕ) → GoesDown m P → P class → IsOf m g class n → Stands g P n
 Stands-down m g P class n down p h = go (object_at g n) h
   where

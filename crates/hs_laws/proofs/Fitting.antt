@@ -129,7 +129,7 @@ slot-written nodes images sets slots n kind w h = has_slot-all (λ n kind. is_se
     written : List At
     written = slots_at nodes images (filter (λ slot. slot.written) slots)
 
--- What is known of each write of a block: its slot stands, at an image that is not dropped and is one of the block's own.
+-- What is known of each write of a block: its slot is, at an image that is not dropped and is one of the block's own.
 record WriteIs (g : Graph) (dropped own : List ℕ) (w : Write) : Type 0 where
   pub stands : IsSome (value_at g w.object w.slot)
   pub stays : has dropped w.object ≡ false

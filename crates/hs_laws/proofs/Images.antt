@@ -18,7 +18,7 @@ use Rattle.hs_expr.proofs.Lists.{AllZip-append, Differ-apart, All-by_has, beside
 abbrev pub FitsNode : Metamodel → Graph → PatternNode → ℕ → Type 0
 FitsNode m g node n = IsOf m g node.class n
 
--- Node n stands on the left side.
+-- Node n is on the left side.
 abbrev pub IsLeft : List PatternNode → ℕ → Type 0
 IsLeft nodes n = node_is is_left nodes n ≡ true
 
@@ -58,7 +58,7 @@ image-at R (y ∷ ys) (i ∷ is) (suc n) x z h l = elim (cases_Bool (is_left y.m
 pub image-among : (R : PatternNode → ℕ → Type 0) (nodes : List PatternNode) (images : List ℕ) (n : ℕ) → AllZip R (left_nodes nodes) images → IsLeft nodes n → has images (image nodes images n) ≡ true
 image-among R nodes images n z l = image-all R (λ i. has images i ≡ true) nodes images n z (All-by_has (λ i. has images i ≡ true) images (λ i h. h)) l
 
--- A node that is left and kept, by what stands at its number.
+-- A node that is left and kept, by what is at its number.
 pub IsLeft-from : (nodes : List PatternNode) (n : ℕ) (x : PatternNode) → slice_get nodes n ≡ Some x → is_left x.mark ≡ true → IsLeft nodes n
 IsLeft-from nodes n x e l = rw e l
 
@@ -89,7 +89,7 @@ image-stays R (y ∷ ys) (i ∷ is) (suc n) x z d h l k = elim (cases_Bool (is_l
       subst (λ (o : ℕ). has (beside (λ k. is_drop k.mark) (left_nodes (y ∷ ys)) (i ∷ is)) o ≡ false) (sym same) (rw e (image-stays R ys (i ∷ is) n x (rw e at z) d h l k))
 ]
 
--- More nodes and images behind change no image.
+-- More nodes and images at the end change no image.
 pub image-front : (R : PatternNode → ℕ → Type 0) (xs ys : List PatternNode) (ms ns : List ℕ) (n : ℕ) → AllZip R (left_nodes xs) ms → IsLeft xs n → image (xs ++ ys) (ms ++ ns) n ≡ image xs ms n
 image-front R [] ys ms ns n z l = absurd (both_ways false refl l)
 image-front R (x ∷ xs) ys [] ns zero z l = absurd (rw l at z)

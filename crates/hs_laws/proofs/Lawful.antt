@@ -74,7 +74,7 @@ IsLawful-take rules g entries n h place = elim (cases_lt place n) [
   | inr l ↦ rw (slice_get-taken entries n place l) tt
 ]
 
--- A lawful journal goes on with each entry that is lawful behind it.
+-- A lawful journal with one more entry that is lawful after it is lawful.
 pub IsLawful-push : (rules : RuleSet) (g : Graph) (entries : List Entry) (entry : Entry) → IsLawful rules g entries → IsLawfulEntry rules entries (after_journal rules g entries) (length entries) entry → IsLawful rules g (entries ++ entry ∷ [])
 IsLawful-push rules g entries entry h k place = elim (cases_lt place (length entries)) [
   | inl l ↦ rw (slice_get-first entries (entry ∷ []) place l, take-append-le place entries (entry ∷ []) (omega arith)) (h place)

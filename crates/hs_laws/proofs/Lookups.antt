@@ -1,4 +1,4 @@
--- What stands in the graph after a step.
+-- What is in the graph after a step.
 use Rattle.std.proofs.Common.{ℕ, ◌+◌, ◌<◌, ◌≡◌, inl, inr, List, [], ◌∷◌, map, length, Bool, true, false, cond, not, eqb, Option, Some, None, IsSomeAnd, refl, sym, ap, ◌∙◌, subst, arith}
 use Rattle.std.specs.List.{All, filter, find, list_any}
 use Rattle.std.specs.Option.{option_map, option_or}
@@ -106,7 +106,7 @@ pub new_edges-rise : (next n : ℕ) (es : List MadeEdge) → Rise n (map (λ e. 
 new_edges-rise next n [] = omega arith
 new_edges-rise next n (x ∷ es) = let e : n + length (x ∷ es) ≡ (n + 1) + length es = omega arith in (omega arith, rw e (new_edges-rise next (n + 1) es))
 
--- What stands below the next number after the step was not dropped, and stood before it.
+-- What is below the next number after the step was not dropped, and was before it.
 pub Stands-old : (P : ℕ → Type 0) (g : Graph) (p : Plan) (n : ℕ) → n < g.next_object → Stands (step g p) P n → (has p.drop_objects n ≡ false) × Stands g P n
 Stands-old P g p n l h =
     let made = new_objects g.next_object g.next_name p.make_objects in
@@ -130,7 +130,7 @@ edge-old g p n e l h =
     back false None h = h
     back false (Some x) h = h
 
--- What is of a class that is not made stood before.
+-- What is of a class that is not made was before.
 pub object-unmade : (m : Metamodel) (g : Graph) (p : Plan) (class n : ℕ) → All (λ o. Conforms m o.class class → ⊥) p.make_objects → IsOf m (step g p) class n → (has p.drop_objects n ≡ false) × IsOf m g class n
 object-unmade m g p class n none h =
     let P : Option Object → Type 0 = λ o. IsSomeAnd o (λ o. Conforms m o.class class) in
@@ -148,7 +148,7 @@ object-unmade m g p class n none h =
     back false None made miss h = absurd (miss h)
     back false (Some x) made miss h = (refl, h)
 
--- An edge of a reference that is not made stood before.
+-- An edge of a reference that is not made was before.
 pub edge-unmade : (g : Graph) (p : Plan) (n : ℕ) (e : Edge) → All (λ m. m.reference ≡ e.reference → ⊥) p.make_edges → edge_at (step g p) n ≡ Some e → edge_at g n ≡ Some e
 edge-unmade g p n e none h =
     back (has p.drop_edges n) (edge_at g n) (find (λ e. eqb e.number n) (new_edges g.next_object g.next_edge p.make_edges)) (unmade g.next_edge p.make_edges none) (sym (edge_at-step g p n) ∙ h)

@@ -59,13 +59,13 @@ made_fit : (m : Metamodel) (n k : ℕ) (os : List MadeObject) → All (λ o. Are
 made_fit m n k [] a = All-nil (λ o. AreSlotsOf m o.class o.slots)
 made_fit m n k (o ∷ os) a = All-cons (λ o. AreSlotsOf m o.class o.slots) (record { number = n; name = hash_name k; class = o.class; slots = o.slots }) (new_objects (n + 1) (k + 1) os) (All-head (λ o. AreSlotsOf m o.class o.slots) o os a) (made_fit m (n + 1) (k + 1) os (All-tail (λ o. AreSlotsOf m o.class o.slots) o os a))
 
--- The i-th made object stands at the i-th next number.
+-- The i-th made object is at the i-th next number.
 made_at : (P : ℕ → Type 0) (n k i : ℕ) (os : List MadeObject) → IsSomeAnd (slice_get os i) (λ o. P o.class) → IsSomeAnd (find (λ o. eqb o.number (n + i)) (new_objects n k os)) (λ o. P o.class)
 made_at P n k i [] h = absurd h
 made_at P n k zero (o ∷ os) h = let e : eqb n (n + 0) ≡ true = eq-eqb n (n + 0) (omega arith) in rw e h
 made_at P n k (suc i) (o ∷ os) h = let e : eqb n (n + suc i) ≡ false = ne_eqb n (n + suc i) (λ e. omega arith) in let s : n + suc i ≡ (n + 1) + i = omega arith in rw e (subst (λ (j : ℕ). IsSomeAnd (find (λ o. eqb o.number j) (new_objects (n + 1) (k + 1) os)) (λ o. P o.class)) (sym s) (made_at P (n + 1) (k + 1) i os h))
 
--- An end of a made edge stands after the step.
+-- An end of a made edge is after the step.
 end_stands : (m : Metamodel) (g : Graph) (p : Plan) (P : ℕ → Type 0) (x : End) → IsTyped m g → EndIs g p P x → Stands (step g p) P (number_of g.next_object x)
 end_stands m g p P (Old n) t h = Stands-kept P g p n h.1 h.0
 end_stands m g p P (New i) t h =

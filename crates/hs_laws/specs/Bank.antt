@@ -230,7 +230,7 @@ touch =
     rule [] (kernel (node (codes "q") 0 Keep ∷ node (codes "p") 1 Keep ∷ [])
     (arrow 0 0 1 Keep ∷ arrow 0 0 1 Keep ∷ []) [])
 
--- forbid or require { node d: Client; edge a -> d: owner; }, behind one kernel node a
+-- forbid or require { node d: Client; edge a -> d: owner; }, after one kernel node a
 abbrev pub owned_by_another : Part
 owned_by_another = record { nodes = node (codes "d") 0 Keep ∷ []; edges = arrow 0 2 1 Keep ∷ [] }
 
@@ -255,7 +255,7 @@ own =
     (kernel (node (codes "a") 1 Keep ∷ []) [] (balance_of 0 ∷ [])))
     { needs = owned_by_another ∷ []; sets = set_balance 0 (number (pos 1)) ∷ [] }
 
--- The same part behind kernel nodes a and c, so that d is another client than c.
+-- The same part after kernel nodes a and c, so that d is another client than c.
 abbrev pub owned_by_a_third : Part
 owned_by_a_third = record { nodes = node (codes "d") 0 Keep ∷ []; edges = arrow 0 2 2 Keep ∷ [] }
 
@@ -388,7 +388,7 @@ always_unless_it_overflows =
     expr.Binary sign.Or (expr.Literal (value.Bool true)) (expr.Binary sign.Greater
     (expr.Binary sign.Plus (expr.Param 2) (number (pos 1))) (number (pos 0)))
 
--- Entries that don't tell what was: a match missed that is there, another name than the next, and
+-- Entries that say what wasn't: a match missed that is there, another name than the next, and
 -- an object gone that is still there.
 abbrev pub open_args : Args
 open_args = args_of (object_arg (codes "c") (codes "c1") ∷ [])

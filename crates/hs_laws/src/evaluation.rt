@@ -8,8 +8,8 @@ ghost use Rattle.hs_expr.specs.declared.value.Kind.{Kind};
 ghost use Rattle.hs_expr.specs.declared.value.Value.{Value};
 ghost use Rattle.hs_expr.specs.Evaluation.{Env, IsComplete, Overflows, Scope, binary_value, kind_in, kind_of, not_value, minus_value, value_of};
 
-/// The value of an expression, form by form. An operand without a value leaves the whole without
-/// one.
+/// The value of an expression, form by form. An expression with an operand
+/// without a value has none.
 pub fn values_by_form()
     ensures literal { (env : Env) (v : Value) → value_of env (expr.Literal v) ≡ Some v }
     ensures slot { (env : Env) (read : SlotRead)

@@ -52,8 +52,8 @@ pub fn graphs()
     ensures no_gap { IsOpening model leaves_a_name_out → ⊥ }
 {}
 
-/// Expressions are strict: where one part leaves 64 bits the whole has no value, whatever the rest
-/// is.
+/// Expressions are strict: where one part leaves 64 bits the expression has no value, whatever the
+/// rest is.
 pub fn expressions()
     ensures strict_or { (env : Env) → env.param 0 ≡ Some (value.Int (pos (2 ^ 63 - 1)))
         → value_of env (expr.Binary sign.Or (expr.Literal (value.Bool true))
@@ -134,7 +134,7 @@ pub fn conditions()
         owned_by_another → ⊥ }
 {}
 
-/// Rules: no edge can be made at a node that goes, and each slot that is set stands in the list.
+/// Rules: no edge can be made at a deleted node, and each slot that is set is in the list.
 pub fn rules_refused()
     ensures no_hanging { IsRule model hang → ⊥ }
     ensures no_missing_slot { IsRule model slotless → ⊥ }
@@ -193,8 +193,8 @@ pub fn copies()
 {}
 
 /// A journal of two entries, of which the first opens an account and the second adds to it; the
-/// other way round the first names a match that isn't there. And entries that don't tell what was.
-pub fn journals_told()
+/// other way round the first names a match that isn't there. And entries that say what wasn't.
+pub fn journals_tried()
     ensures lawful { (set : RuleSet) → meta_of set ≡ model → set.rules ≡ open_account ∷ add ∷ []
         → IsLawful set just_client (opens ∷ adds ∷ []) }
     ensures graph { (set : RuleSet) → meta_of set ≡ model → set.rules ≡ open_account ∷ add ∷ []

@@ -10,8 +10,7 @@ ghost use Rattle.hs_types.specs.TypedGraph.{IsTyped};
 
 use hs_types::rule_sets_are_formed;
 
-/// What stands in front in a lawful journal is lawful, and the graph at each of its places is
-/// typed.
+/// Each prefix of a lawful journal is lawful, and the graph after it is typed.
 pub fn journals_stay_lawful()
     ensures prefixes { (set : RuleSet) (opening : Graph) (entries : List Entry) (n : ℕ)
         → IsLawful set opening entries → IsLawful set opening (take n entries) }
@@ -22,8 +21,8 @@ pub fn journals_stay_lawful()
     rule_sets_are_formed();
 }
 
-/// A lawful journal goes on with each entry that is lawful behind it, and its graph with the
-/// entry's.
+/// A lawful journal with one more entry that is lawful after it is lawful, and its graph is the
+/// one after that entry.
 pub fn journals_go_on()
     ensures lawful { (set : RuleSet) (opening : Graph) (entries : List Entry) (entry : Entry)
         → IsLawful set opening entries

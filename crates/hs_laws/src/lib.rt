@@ -2,7 +2,7 @@
 //!
 //! Each law is the contract of a function that does nothing: what its clauses say is true of every
 //! metamodel, graph, rule, match and journal. They are the reasons to believe that the definitions
-//! in the crates below say what they should, and other crates cite the lemmas behind them.
+//! in the crates below say what they should, and crates above rest on them.
 #![tactic(auto)]
 
 mod conformance;
@@ -16,7 +16,7 @@ mod steps;
 pub use conformance::conformance_is_an_order;
 pub use evaluation::{no_value_means_overflow, values_by_form, values_have_their_kinds};
 pub use examples::{
-    arguments, conditions, copies, dangling, expressions, graphs, journals_told, metamodels,
+    arguments, conditions, copies, dangling, expressions, graphs, journals_tried, metamodels,
     orders, plain_matches, plans, rules_refused, steps_made, transfers,
 };
 pub use journals::{

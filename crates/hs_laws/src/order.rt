@@ -11,7 +11,7 @@ ghost use Rattle.hs_types.specs.PlainMatch.{kernel_of};
 ghost use Rattle.hs_types.specs.ValidMatch.{IsFirst, IsLeast, IsValid};
 
 /// Of two different extensions exactly one is the earlier. Where they have as many nodes, it is the
-/// one whose nodes and edges, one list behind the other, come first.
+/// one of which the list of nodes and then edges is the lesser in lexicographic order.
 pub fn order_is_total()
     ensures irreflexive { (x : Extension) → IsEarlier x x → ⊥ }
     ensures transitive { (x y z : Extension) → IsEarlier x y → IsEarlier y z → IsEarlier x z }

@@ -83,7 +83,7 @@ EachFits-below : (P Q : List ℕ → ℕ → Type 0) (n : ℕ) → ((f : List �
 EachFits-below P Q n step front [] l h = tt
 EachFits-below P Q n step front (x ∷ xs) l h = (step front x (omega arith) h.0, EachFits-below P Q n step (front ++ x ∷ []) xs (omega (arith, length_push front x)) h.1)
 
--- the same behind the images of the nodes
+-- The same after the images of the nodes.
 EachFits-behind : (P Q : List ℕ → ℕ → Type 0) (ns : List ℕ) → ((f : List ℕ) (x : ℕ) → P (ns ++ f) x → Q f x) → (front xs : List ℕ) → EachFits P (ns ++ front) xs → EachFits Q front xs
 EachFits-behind P Q ns step front [] h = tt
 EachFits-behind P Q ns step front (x ∷ xs) h = (step front x h.0, EachFits-behind P Q ns step (front ++ x ∷ []) xs (rw append_assoc at h.1))
@@ -95,7 +95,7 @@ node_next s f x l h =
     let w : FitsAs s f x (Some there.0) = rw e at h in
     rw e (w.of_class, w.free)
 
--- behind all nodes the next image is an edge's
+-- After all nodes the next image is an edge's.
 pub edge_fits : (s : Sought) (ns f : List ℕ) (x : ℕ) → length ns ≡ length (left_nodes s.nodes) → FitsNext s (ns ++ f) x → IsSomeAnd (slice_get (left_edges s.edges) (length f)) (λ edge. IsFreeImage s ns f edge x)
 edge_fits s ns f x w h =
     let past : slice_get (left_nodes s.nodes) (length (ns ++ f)) ≡ None = slice_get_past (left_nodes s.nodes) (length (ns ++ f)) (omega (arith, length-append ns f)) in
@@ -143,7 +143,7 @@ extension_choice s x extends =
     let same : split s (x.nodes ++ x.edges) ≡ x = rw (t, d) refl in
     record { whole = omega (arith, length-append x.nodes x.edges); good = rw same extends }
 
--- in a choice the number behind these is a free object of the next node's class
+-- In a choice the next number is a free object of the next node's class.
 pub node_in_choice : (s : Sought) (size : ℕ) (front : List ℕ) (y : ℕ) (rest : List ℕ) (node : PatternNode) → slice_get (left_nodes s.nodes) (length front) ≡ Some node →
     IsChoice size (AreImages s) ((front ++ y ∷ []) ++ rest) → IsFree s.meta s.graph node.class (s.base.nodes ++ front) y
 node_in_choice s size front y rest node at c =
@@ -157,7 +157,7 @@ node_in_choice s size front y rest node at c =
       free = Differ-at (s.base.nodes ++ front) y (take (n - length front - 1) rest) (rw append_assoc (rw cut at good.nodes_differ));
     }
 
--- and behind the images of all nodes it is a free image of the next edge
+-- And after the images of all nodes it is a free image of the next edge.
 pub edge_in_choice : (s : Sought) (size : ℕ) (front : List ℕ) (y : ℕ) (rest : List ℕ) (edge : PatternEdge) → length (left_nodes s.nodes) ≤ length front →
     slice_get (left_edges s.edges) (length front - length (left_nodes s.nodes)) ≡ Some edge → IsChoice size (AreImages s) ((front ++ y ∷ []) ++ rest) →
     IsFreeImage s (take (length (left_nodes s.nodes)) front) (drop (length (left_nodes s.nodes)) front) edge y

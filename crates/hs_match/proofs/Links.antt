@@ -65,7 +65,7 @@ pub IsNextFrom-iff : (P Q : ℕ → Type 0) (from : ℕ) (o : Option ℕ) → ((
 IsNextFrom-iff P Q from (Some x) to back n = record { fits = to x n.fits; late = n.late; least = λ y ge lt q. n.least y ge lt (back y q) }
 IsNextFrom-iff P Q from None to back n = λ y ge q. n y ge (back y q)
 
--- the image behind these, and those among them
+-- The next image, and those among these.
 pub image_here : (nodes : List PatternNode) (base front : List ℕ) (y : ℕ) (rest : List ℕ) (node : ℕ) → length (left_nodes (take node nodes)) ≡ length base + length front → image nodes (base ++ (front ++ y ∷ rest)) node ≡ y
 image_here nodes base front y rest node place =
     let long : length (left_nodes (take node nodes)) ≡ length (base ++ front) = omega (arith, place, length-append base front) in

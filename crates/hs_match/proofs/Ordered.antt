@@ -12,7 +12,7 @@ use Rattle.hs_match.specs.Candidates.{Ascend}
 pub Ascend-tail : {A : Type 0} (number : A → ℕ) (x : A) (xs : List A) → Ascend number (x ∷ xs) → Ascend number xs
 Ascend-tail number x xs up = λ i j a b p q lt. up (suc i) (suc j) a b p q (omega arith)
 
--- what stands at a place is found by its number
+-- what is at a place is found by its number
 pub find_here : {A : Type 0} (number : A → ℕ) (xs : List A) (i : ℕ) (a : A) → Ascend number xs → slice_get xs i ≡ Some a → find (λ x. eqb (number x) (number a)) xs ≡ Some a
 find_here number [] i a up h = cc
 find_here number (x ∷ xs) zero a up h = let e : x ≡ a = cc in rw (e, eq-eqb (number a) (number a) refl) refl
@@ -22,7 +22,7 @@ find_here number (x ∷ xs) (suc i) a up h =
     let other : number x ≢ number a = omega arith in
     rw (ne_eqb (number x) (number a) other) rest
 
--- what is found stands somewhere, with the number
+-- what is found is somewhere, with the number
 pub find_place : {A : Type 0} (number : A → ℕ) (xs : List A) (n : ℕ) (a : A) → find (λ x. eqb (number x) n) xs ≡ Some a → (i : ℕ) × (slice_get xs i ≡ Some a) × (number a ≡ n)
 find_place number [] n a h = cc
 find_place {A} number (x ∷ xs) n a h =
@@ -41,7 +41,7 @@ pub find_none : {A : Type 0} (number : A → ℕ) (xs : List A) (n : ℕ) → ((
 find_none number [] n never = refl
 find_none number (x ∷ xs) n never = rw (ne_eqb (number x) n (never zero x refl)) (find_none number xs n (λ i a at e. never (suc i) a at e))
 
--- where numbers rise, those below a bound stand in front
+-- where numbers rise, those below a bound are in front
 pub Ascend-partitioned : {A : Type 0} (number : A → ℕ) (xs : List A) (from : ℕ) → Ascend number xs → IsPartitionedBy (λ x. nat_lt (number x) from) xs
 Ascend-partitioned {A} number xs from up i j d le lt below =
     let b : number (get_or xs j d) < from = ltb-true _ _ below in
@@ -59,9 +59,9 @@ before_place number xs from place p i a at lt =
     let below = p.0 i a (omega arith) lt in
     ltb-true (number a) from (rw (get_or_from_slice_get xs i a a at) at below)
 
-pub behind_place : {A : Type 0} (number : A → ℕ) (xs : List A) (from place : ℕ) → IsPartitionPoint (λ x. nat_lt (number x) from ≡ true) (λ x. nat_lt (number x) from ≡ false) xs place →
+pub from_place : {A : Type 0} (number : A → ℕ) (xs : List A) (from place : ℕ) → IsPartitionPoint (λ x. nat_lt (number x) from ≡ true) (λ x. nat_lt (number x) from ≡ false) xs place →
     (i : ℕ) (a : A) → slice_get xs i ≡ Some a → place ≤ i → from ≤ number a
-behind_place number xs from place p i a at le =
+from_place number xs from place p i a at le =
     let above = p.1 i a le (slice_get_within xs i a at) in
     ltb-false (number a) from (rw (get_or_from_slice_get xs i a a at) at above)
 

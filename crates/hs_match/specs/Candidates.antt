@@ -21,13 +21,13 @@ NoneFrom P from = (y : ℕ) → from ≤ y → P y → ⊥
 abbrev pub IsNextFrom : (ℕ → Type 0) → ℕ → Option ℕ → Type 0
 IsNextFrom P from answer = MatchOption answer (NoneFrom P from) (IsLeastFrom P from)
 
--- The items stand in the order of their numbers, which differ.
+-- The items are in the order of their numbers, which differ.
 abbrev pub Ascend : {A : Type 0} → (A → ℕ) → List A → Type 0
 Ascend {A} number items =
     (i j : ℕ) (a b : A) → slice_get items i ≡ Some a → slice_get items j ≡ Some b → i < j
     → number a < number b
 
--- At n stands an object of the class, and it isn't taken.
+-- n is an object of the class, and it isn't taken.
 pub record IsFree (m : Metamodel) (g : Graph) (class : ℕ) (taken : List ℕ) (n : ℕ) : Type 0 where
   pub of_class : IsOf m g class n
   pub free : has taken n ≡ false

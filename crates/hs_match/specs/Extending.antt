@@ -19,7 +19,7 @@ pub record Sought : Type 0 where
   pub nodes : List PatternNode
   pub edges : List PatternEdge
 
--- The list is the images of the left nodes, and behind them those of the left edges.
+-- The list is the images of the left nodes, and after them those of the left edges.
 abbrev pub split : Sought → List ℕ → Extension
 split s images = record {
   nodes = take (length (left_nodes s.nodes)) images;
@@ -51,7 +51,7 @@ FitsAs s front n None =
 abbrev pub FitsNext : Sought → List ℕ → ℕ → Type 0
 FitsNext s front n = FitsAs s front n (slice_get (left_nodes s.nodes) (length front))
 
--- The object n is no free one of the class, or no images of the whole go on with it.
+-- The object n isn't a free one of the class, or no images continue with it.
 abbrev pub NoObject : Sought → ℕ → List ℕ → ℕ → Type 0
 NoObject s class front n =
     (rest : List ℕ) → IsFree s.meta s.graph class (s.base.nodes ++ front) n

@@ -101,7 +101,7 @@ impl Extending<'_> {
 
     // A number from here on that the next edge's image may be.
     fn next_edge_image(&self, front: &[u32], from: u64) -> Option<EdgeNo>
-        requires behind { self.now.node_count ≤ length front.now }
+        requires nodes_done { self.now.node_count ≤ length front.now }
         requires left { length front.now < self.now.node_count + self.now.edge_count }
         ensures { IsSomeAnd (slice_get (left_edges self.now.edges.now)
             (length front.now - self.now.node_count))
@@ -127,7 +127,7 @@ impl Extending<'_> {
 }
 
 impl Extending<'_> {
-    // An edge that the object which comes behind these must have.
+    // An edge that the next object must have.
     fn link(&self, front: &[ObjectNo]) -> Option<Link>
         requires { length front.now < self.now.node_count }
         ensures { IfSome result
@@ -145,8 +145,7 @@ impl Extending<'_> {
         None
     }
 
-    // What an image of the edge says of the object behind these, where its other end is among
-    // these.
+    // What an image of the edge says of the next object, where its other end is among these.
     fn link_of(&self, edge: &PatternEdge, front: &[ObjectNo]) -> Option<Link>
         ensures { IfSome result (λ link. (y : ℕ) (rest : List ℕ) (n : ℕ)
             → IsImage self.now.graph.now (image (self.now.base_nodes.now ++ self.now.nodes.now)

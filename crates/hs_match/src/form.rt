@@ -5,7 +5,7 @@ ghost use Rattle.hs_match.specs.FirstMatch.{InOrder, IsSmall};
 use hs_search::MOST;
 use hs_types::{Edge, Graph, Object, Shape, count_left_edges, count_left_nodes};
 
-/// Whether the objects and edges stand in the order of their numbers, below the next ones.
+/// Whether the objects and edges are in the order of their numbers, below the next ones.
 pub fn is_in_order(graph: &Graph) -> bool
     ensures { IsTrue result ↔ InOrder graph.now }
 {

@@ -9,7 +9,7 @@ pub fn first_from(objects: &[Object], from: u64) -> usize
     requires { Ascend (λ object. object.number) objects.now }
     ensures before { (i : ℕ) (object : _) → slice_get objects.now i ≡ Some object → i < result
         → object.number < from }
-    ensures behind { (i : ℕ) (object : _) → slice_get objects.now i ≡ Some object → result ≤ i
+    ensures from { (i : ℕ) (object : _) → slice_get objects.now i ≡ Some object → result ≤ i
         → from ≤ object.number }
 {
     objects.partition_point(|object| u64::from(object.number) < from)

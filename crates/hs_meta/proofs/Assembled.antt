@@ -2,7 +2,7 @@
 use Rattle.std.proofs.Common.{ℕ, ◌+◌, ◌≡◌, ◌++◌, List, ◌∷◌, ap, sym, ◌∙◌, append_assoc}
 use Rattle.hs_expr.specs.Verdict.{each_from}
 
--- What is made of one more item stands after what was made.
+-- What is made of one more item is after what was made.
 pub made_more : {X E : Type 0} (finds : ℕ → X → List E) (made whole new : List E) (x : X) (items rest : List X) (n m : ℕ) → items ≡ x ∷ rest → m ≡ n + 1 →
     made ++ each_from finds n items ≡ whole → new ≡ made ++ finds n x → new ++ each_from finds m rest ≡ whole
 made_more finds made whole new x items rest n m split next so_far put =

@@ -1,4 +1,4 @@
--- Items of lists: what holds of each, what differs, and at which places they stand.
+-- Items of lists: what holds of each, what differs, and at which places they are.
 use Rattle.std.proofs.Common.{ℕ, zero, suc, ◌+◌, ◌<◌, ◌≤◌, ◌≡◌, ◌⊎◌, ◌++◌, List, [], ◌∷◌, Bool, true, false, cond, not, eqb, map, length, get_or, slice_get, Some, refl, ap, sym, ◌∙◌, arith, inl, inr, add-zero}
 use Rattle.std.proofs.lemmas.Bool.{false≢true, eq-eqb, eqb-true, eqb-false, ne_eqb, not-true, or_cases, or_left, or_parts, or_right}
 use Rattle.std.proofs.lemmas.List.Elements.{All-cons, All-filter, All-head, All-nil, All-tail, All-weaker, filter_passes}
@@ -126,7 +126,7 @@ pub places-every : {A : Type 0} (n : ℕ) (t : A → Bool) (xs : List A) → All
 places-every n t [] a = refl
 places-every n t (x ∷ xs) a = rw (All-head (λ x. t x ≡ true) x xs a) (ap (λ ks. n ∷ ks) (places-every (n + 1) t xs (All-tail (λ x. t x ≡ true) x xs a)))
 
--- What stands at a number that is a place.
+-- What is at a number that is a place.
 place_from : {A : Type 0} (n : ℕ) (t : A → Bool) (xs : List A) (k : ℕ) → has (places_from n t xs) k ≡ true → (i : ℕ) × (x : A) × (k ≡ n + i) × (slice_get xs i ≡ Some x) × (t x ≡ true)
 place_from n t [] k e = absurd (false≢true e)
 place_from {A} n t (x ∷ xs) k e = go (t x) refl e (place_from (n + 1) t xs k)

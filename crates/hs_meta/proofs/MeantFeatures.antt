@@ -1,4 +1,4 @@
--- The features that written classes mean: whose they are, how they are numbered, and in which order they stand.
+-- The features that written classes mean: whose they are, how they are numbered, and in which order they are.
 use Rattle.std.proofs.Common.{ℕ, zero, suc, ℤ, pos, negsuc, ◌+◌, ◌<◌, ◌≤◌, ◌≡◌, ◌++◌, List, [], ◌∷◌, Bool, true, false, eqb, nat_lt, nat_le, map, length, get_or, slice_get, Option, Some, None, IfSome, is_some, refl, ap, sym, ◌∙◌, arith, inl, inr, length-append, append-nil, zero-add}
 use Rattle.std.proofs.lemmas.Bool.{false≢true, and_parts, both_ways, eq-eqb, eqb-true, ltb-true, leb-true, ne_eqb}
 use Rattle.std.proofs.lemmas.List.{length-map}

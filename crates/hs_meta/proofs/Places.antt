@@ -1,4 +1,4 @@
--- Places of classes by their names, when one more stands at the end.
+-- Places of classes by their names, when one more is at the end.
 use Rattle.std.proofs.Common.{ℕ, ◌+◌, ◌≤◌, ◌≡◌, ◌++◌, List, [], ◌∷◌, Bool, true, false, cond, not, eqb, ltb, length, length-take-le, take, slice_get, Option, Some, None, is_some, refl, ap, sym, ◌∙◌, arith, length-append}
 use Rattle.std.proofs.lemmas.Bool.{false≢true}
 use Rattle.std.proofs.lemmas.Bool.Decides.{nat_tests}

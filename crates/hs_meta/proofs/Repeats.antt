@@ -7,7 +7,7 @@ use Rattle.std.specs.List.{list_any}
 use Rattle.hs_expr.specs.Lists.{same_text}
 use Rattle.hs_meta.specs.Names.{differ}
 
--- A text that stands further before.
+-- A text that is further before.
 pub differ_not : (before behind : List (List ℕ)) (text : List ℕ) → list_any (same_text text) before ≡ true → differ (before ++ text ∷ behind) ≡ false
 differ_not [] behind text e = absurd (false≢true e)
 differ_not (first ∷ before) behind text e = elim (or_cases (same_text text first) (list_any (same_text text) before) e) [

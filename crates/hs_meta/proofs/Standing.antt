@@ -1,4 +1,4 @@
--- Names that stand for classes, and the supertypes that they give.
+-- Names that denote classes, and the supertypes that they give.
 use Rattle.std.proofs.Common.{ℕ, suc, ◌+◌, ◌<◌, ◌≡◌, List, [], ◌∷◌, true, not, eqb, nat_lt, length, get_or, slice_get, Option, Some, None, refl, ap, sym, ◌∙◌, arith, inl, inr}
 use Rattle.std.proofs.lemmas.Bool.{false≢true, cases_lt, eqb-true, ltb-true, or_cases}
 use Rattle.std.proofs.lemmas.List.{get_or-map, get_or_past, length-map}

@@ -1,4 +1,4 @@
--- Names as they are written, and what they stand for.
+-- Names as they are written, and what they denote.
 use Rattle.std.specs.Prelude.{ℕ, List, [], ◌∷◌, length, Bool, true, false, not, nat_le, nat_lt, ◌&&◌, ◌||◌, ◌==◌, Option, Some, None, codes, if◌then◌else◌}
 use Rattle.std.specs.List.{list_all, list_any, position}
 use Rattle.hs_types.specs.declared.meta.DataType.{DataType}

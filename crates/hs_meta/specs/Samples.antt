@@ -30,7 +30,7 @@ sample_reference name target = record {
   upper = negsuc 0;
 }
 
--- D is below B and C, and both are below A, which stands last.
+-- D is below B and C, and both are below A, which is the last.
 abbrev pub diamond : RawMeta
 diamond = record {
   format = 1;

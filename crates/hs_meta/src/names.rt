@@ -1,4 +1,4 @@
-//! Names as they are written, and what they stand for.
+//! Names as they are written, and what they denote.
 
 ghost use Rattle.std.specs.Prelude.{◌≡◌, IfOk};
 ghost use Rattle.std.specs.List.{list_all};

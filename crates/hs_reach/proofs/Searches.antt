@@ -229,7 +229,7 @@ start-reaches graph start t w path rest at reached edge =
 pub leads-at : (graph : List (List ℕ)) (t w c : ℕ) → slice_get (get_or graph t []) c ≡ Some w → has_edge graph t w ≡ true
 leads-at graph t w c e = has_at (get_or graph t []) c w e
 
--- The state after an edge to a vertex: what was tried is told by another list.
+-- The state after an edge to a vertex: what was tried is given by another list.
 pub advances-at : (graph : List (List ℕ)) (before tried : List ℕ) (starts : List (Option ℕ)) (path finished : List ℕ) (t w c : ℕ) → tried ≡ before → c ≡ get_or before t 0 →
     slice_get (get_or graph t []) c ≡ Some w → t < length graph → is_found starts w ≡ true → IsSearchOf graph tried starts path finished → IsSearchOf graph (set tried t (c + 1)) starts path finished
 advances-at graph before tried starts path finished t w c same count at within there u =

@@ -23,7 +23,7 @@ abbrev pub IsPath : List (List ℕ) → List ℕ → Type 0
 IsPath graph [] = Unit {0}
 IsPath graph (n ∷ path) = All (λ p. has_path graph p n ≡ true) path × IsPath graph path
 
--- Edges that were followed lead to vertices that were found, and these stand on the path or are
+-- Edges that were followed lead to vertices that were found, and these are on the path or
 -- finished; each is reached from the first one that it reaches.
 pub record IsSearchOf (graph : List (List ℕ)) (tried : List ℕ) (starts : List (Option ℕ))
     (path finished : List ℕ) : Type 0 where

@@ -11,7 +11,7 @@ pub record IsLeastList (Wanted : List ℕ → Type 0) (xs : List ℕ) : Type 0 w
 abbrev pub IsNone : (List ℕ → Type 0) → Type 0
 IsNone Wanted = (xs : List ℕ) → Wanted xs → ⊥
 
--- So many numbers, good as a whole.
+-- A good list of numbers of this length.
 pub record IsChoice (size : ℕ) (Good : List ℕ → Type 0) (xs : List ℕ) : Type 0 where
   pub whole : length xs ≡ size
   pub good : Good xs

@@ -9,7 +9,7 @@ pub const MOST: usize = 28;
 /// The numbers of a choice, kept without taking memory.
 pub type Numbers = ArrayVec<u32, MOST>;
 
-/// What is searched: lists of as many numbers that are good as a whole, found number by number.
+/// What is searched: good lists of a given length, found number by number.
 pub trait Choice {
     ghost size: { Self → ℕ };
 
@@ -34,7 +34,7 @@ pub trait Choice {
         ensures none { IfNone result ((y : ℕ) → from ≤ y
             → IsDeadEnd (size self.now) (Good self.now) (front.now ++ y ∷ [])) };
 
-    /// Whether the numbers are good as a whole.
+    /// Whether the list is good.
     fn is_good(&self, all: &[u32]) -> bool
         requires whole { length all.now ≡ size self.now }
         requires each_fits { EachFits (Fits self.now) [] all.now }

@@ -45,7 +45,7 @@ pub fn exists<C: Choice>(choice: &C) -> bool
     least(choice).is_some()
 }
 
-// Goes on to the least choice whose numbers behind these come after the bound, or leaves them.
+// Extends the numbers to the least choice whose rest comes after the bound, or leaves them.
 fn go_on<C: Choice>(choice: &C, bound: Option<&[u32]>, numbers: &mut Numbers) -> bool
     requires room { C.size choice.now ≤ 28 }
     requires within { array_vec_len numbers.old ≤ C.size choice.now }
@@ -63,7 +63,7 @@ fn go_on<C: Choice>(choice: &C, bound: Option<&[u32]>, numbers: &mut Numbers) ->
     let mut from = u64::from(first_of(bound));
     'search: while let Some(x) = choice.next(numbers.as_slice(), from) {
         numbers.push(x);
-        if go_on(choice, behind(bound, x), numbers) {
+        if go_on(choice, bound_after(bound, x), numbers) {
             return true;
         }
         numbers.pop();
@@ -82,8 +82,8 @@ fn first_of(bound: Option<&[u32]>) -> u32
     }
 }
 
-// What bounds the numbers behind x.
-fn behind(bound: Option<&[u32]>, x: u32) -> Option<&[u32]>
+// What bounds the numbers after x.
+fn bound_after(bound: Option<&[u32]>, x: u32) -> Option<&[u32]>
     requires { floor (option_copied bound) ≤ x }
     ensures { (rest : List ℕ)
         → IsAbove (option_copied bound.entry) (x ∷ rest) ↔ IsAbove (option_copied result) rest }

@@ -1,4 +1,4 @@
--- An attempt of a rule that only adds, at a valid match, tells what it did.
+-- An attempt of a rule that only adds, at a valid match, says what it did.
 use Rattle.std.proofs.Common.{ℕ, ◌≤◌, ◌≡◌, List, [], length, Some, refl, ap, ◌∙◌, subst, arith}
 use Rattle.std.specs.Option.{option_map, unwrap_or}
 use Rattle.hs_types.specs.declared.entry.Cause.{Cause}

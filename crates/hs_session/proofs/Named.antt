@@ -40,7 +40,7 @@ found_again {A} f p (y ∷ ys) x differ e = elim (cases_Bool (p y)) [
 object-again : (g : Graph) (p : Object → Bool) (x : Object) → Differ (map (λ o. o.name) g.objects) → find p g.objects ≡ Some x → object_named g x.name ≡ Some x.number
 object-again g p x differ e = ap (option_map (λ o. o.number)) (found_again (λ (o : Object). o.name) p g.objects x differ e)
 
--- At this number stands an object.
+-- At this number is an object.
 abbrev Stands-at : Graph → ℕ → Type 0
 Stands-at g n = (x : Object) × (object_at g n ≡ Some x)
 

@@ -75,7 +75,7 @@ lawful_try rules opening request rule tried made cause.Old = rw (made.found, mad
 
 lawful_entry : (rules : RuleSet) (opening : Graph) (request : Request) (rule : Rule) (tried : Tried) → Made rules opening request rule tried → IsLawfulEntry rules [] opening 0 (first_entry tried)
 lawful_entry rules opening request rule tried made = record {
-  numbered = record { at_its_place = refl; within_sessions = omega arith; not_behind = All-nil _; tries_numbered = ap (λ n. n ∷ []) made.first };
+  numbered = record { at_its_place = refl; within_sessions = omega arith; requests_rise = All-nil _; tries_numbered = ap (λ n. n ∷ []) made.first };
   tries = (lawful_try rules opening request rule tried made, tt);
 }
 
@@ -115,7 +115,7 @@ serial_one rules opening request rule tried graph made after model = record {
     least zero = (rw (made.found, made.tried_args) made.least, tt)
     least (suc place) = tt
 
--- The same, told of the outcome that the attempt carries.
+-- The same of the outcome that the attempt carries.
 pub serial_told : (rules : RuleSet) (opening : Graph) (request : Request) (rule : Rule) (tried : Tried) (graph : ListGraph) (outcome : Outcome) → Made rules opening request rule tried → tried.outcome ≡ outcome →
     graph.graph ≡ after_outcome (meta_of rules) opening rule no_args outcome → arc_value graph.meta ≡ meta_of rules →
     IsSerialReport rules opening ((request ∷ []) ∷ []) (record { journal = first_entry tried ∷ []; replies = first_reply outcome ∷ []; graph = graph })

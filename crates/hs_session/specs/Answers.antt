@@ -1,4 +1,4 @@
--- What a request's attempts come to, and the word that tells it.
+-- How a request's attempts end, and the word of its reply.
 use Rattle.std.specs.Prelude.{ℕ, ◌≡◌, List, [], ◌∷◌, Option, Some}
 use Rattle.std.specs.List.{position}
 use Rattle.hs_types.specs.declared.entry.Outcome.{Outcome}
@@ -14,8 +14,7 @@ use Rattle.hs_session.specs.declared.report.Word.TheVariants as word
 abbrev pub rule_named : RuleSet → List ℕ → Option ℕ
 rule_named rules name = position (λ rule. same_text rule.name name) rules.rules
 
--- How far a call has come: what it called was applied, it found no match, or it has still to be
--- tried.
+-- The course of a call: the callee was applied, it found no match, or it has still to be tried.
 pub data Course : Type 0 where
   done : Course
   failed : Course
@@ -31,7 +30,7 @@ Leads [] course = course ≡ asks
 Leads (tried ∷ []) course = course ≡ course_of tried.outcome
 Leads (tried ∷ again ∷ more) course = ⊥
 
--- The word on a request that came so far. Want of memory may be told at any of its points.
+-- The words that fit a course. A request may run out of memory at any point.
 abbrev pub Says : Course → Word → Type 0
 Says done word.Ok = Unit {0}
 Says failed word.NoMatch = Unit {0}

@@ -25,7 +25,7 @@ use Rattle.hs_session.specs.declared.report.Word.{Word}
 use Rattle.hs_session.specs.declared.report.Word.TheVariants as word
 use Rattle.hs_session.specs.Answers.{Course, IsFor, Leads, Says}
 
--- A request, and where it stands: its session, and its number in it.
+-- A request, with its session and its number in it.
 pub record Asked : Type 0 where
   pub session : ℕ
   pub number : ℕ
@@ -54,8 +54,8 @@ abbrev pub IsSingle : What → Type 0
 IsSingle (One tried) = Unit {0}
 IsSingle (Group attempts done) = ⊥
 
--- The out values of an attempt that stands in this graph: of each out parameter, in written order,
--- the name of its object.
+-- The out values of an attempt in this graph: of each out parameter, in written order, the name of
+-- its object.
 abbrev pub outs_at : Graph → Rule → Match → List Out
 outs_at g rule f =
     filter_map (λ param. option_map (λ object. record { parameter = param.name; object = object })
@@ -70,7 +70,7 @@ abbrev pub outs_of_try : RuleSet → Graph → Tried → List Out
 outs_of_try rules g tried =
     unwrap_or (option_map (λ rule. outs_of_outcome g rule tried.outcome) (rule_of rules tried)) []
 
--- The out values of a request whose one attempt stands in this entry.
+-- The out values of a request whose one attempt is in this entry.
 abbrev pub outs_in : RuleSet → Graph → List Entry → ℕ × Entry → List Out
 outs_in rules opening journal placed =
     flat_map (outs_of_try rules (after_journal rules opening (take placed.0 journal)))

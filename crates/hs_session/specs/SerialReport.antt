@@ -40,20 +40,20 @@ AreLeastTries rules g [] = Unit {0}
 AreLeastTries rules g (tried ∷ tries) =
     IsLeastTry rules g tried × AreLeastTries rules (after_try rules g tried) tries
 
--- The same of each entry where it stands.
+-- The same of each entry, in the graph at its place.
 abbrev pub AreLeast : RuleSet → Graph → List Entry → Type 0
 AreLeast rules opening entries =
     (place : ℕ) → IfSome (slice_get entries place) (λ entry. AreLeastTries rules
     (after_journal rules opening (take place entries)) (tries_in entry.what))
 
--- A lawful report whose entries stand in the order of their requests, each applied at the least
--- match where it stands.
+-- A lawful report whose entries are in the order of their requests, each applied at the least match
+-- in the graph at its place.
 pub record IsSerialReport (rules : RuleSet) (opening : Graph) (sessions : List (List Request))
     (report : Report) : Type 0 where
   pub lawful : IsLawfulReport rules opening sessions report
   pub in_order : EachPair NotAfter report.journal
   pub least : AreLeast rules opening report.journal
 
--- No request was answered by want of memory.
+-- No request ran out of memory.
 abbrev pub HadMemory : Report → Type 0
 HadMemory report = All (λ reply. reply.word ≡ word.Memory → ⊥) report.replies

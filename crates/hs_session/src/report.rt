@@ -36,6 +36,6 @@ pub enum Word {
     Ok,
     /// No match was valid.
     NoMatch,
-    /// Memory was wanting.
+    /// Out of memory.
     Memory,
 }

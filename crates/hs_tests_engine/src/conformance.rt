@@ -5,7 +5,7 @@ use hs_tests_model::model_of;
 use hs_types::{Edge, Graph, Object, Slot};
 use std::alloc::{AllocError, Global};
 
-/// Class 3 is below 2 and 0, 2 below 1, and 1 below 0, which is abstract, as is 4, which stands
+/// Class 3 is below 2 and 0, 2 below 1, and 1 below 0, which is abstract, as is 4, which is
 /// alone.
 const CLASSES: &str =
     r#"{"classes":[{"name":"A","abstract":true},{"name":"B","supers":["A"]},{"name":"C","abstract":true,"supers":["B"]},{"name":"D","supers":["C","A"]},{"name":"E","abstract":true}]}"#;

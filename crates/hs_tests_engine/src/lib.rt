@@ -4,7 +4,7 @@
 
 mod reports;
 
-pub use reports::reports_told;
+pub use reports::reports_tried;
 
 #[cfg(test)]
 mod conformance;

@@ -6,7 +6,7 @@ use hs_tests_model::model_of;
 use hs_types::{Edge, Graph, Mark, Match, Object, PatternEdge, PatternNode, Rule, Shape};
 use std::alloc::{AllocError, Global};
 
-/// The class 1 is below the class 0, and the class 2 stands alone.
+/// The class 1 is below the class 0, and the class 2 is apart.
 const CLASSES: &str = r#"{"classes":[{"name":"A"},{"name":"B","supers":["A"]},{"name":"C"}]}"#;
 
 /// Objects of these classes and edges between them, numbered from 0.

@@ -11,9 +11,9 @@ ghost use Rattle.hs_tests_engine.specs.Requests.{first_asked, new_account, openi
 
 /// The reply to a request that opened an account, and three that aren't: one with another word, one
 /// with another place, one that leaves the out value out. And reports that aren't lawful, since a
-/// request has no reply or an entry was not asked for, or not serial, since entries stand in
+/// request has no reply or an entry was not asked for, or not serial, since entries are in
 /// another order.
-pub fn reports_told()
+pub fn reports_tried()
     ensures numbers { all_asked ((opening ∷ []) ∷ []) ≡ first_asked ∷ [] }
     ensures entries { entries_of first_asked (opens ∷ adds ∷ []) ≡ (0, opens) ∷ [] }
     ensures answered { (set : RuleSet) → set.rules ≡ open_account ∷ add ∷ []

@@ -5,7 +5,7 @@ use hs_json::{problems_text, read_bundle};
 use std::alloc::{AllocError, Global};
 
 /// Whether the bytes are a bundle, where no line is given, or have the fault of the line that is.
-fn tells(alloc: Global, text: &str, line: Option<&str>) -> Result<bool, AllocError> {
+fn answers(alloc: Global, text: &str, line: Option<&str>) -> Result<bool, AllocError> {
     match (read_bundle(alloc, text.as_bytes()), line) {
         (Ok(_), None) => Ok(true),
         (Err(Failure::Fault(fault)), Some(line)) => Ok(fault.line(alloc)?.as_str() == line),
@@ -19,7 +19,7 @@ fn bundles_are_read(rt: HostRuntime) -> Result<(), AllocError> {
         r#"{"meta":{"classes":[]}}"#,
         r#"{"meta":{"classes":[{"name":"A"}]},"graph":[{"name":"a","class":"A"}],"rules":"","sessions":[],"journal":[]}"#,
     ] {
-        assert!(rt; tells(rt.alloc(), text, None)?, "{text}");
+        assert!(rt; answers(rt.alloc(), text, None)?, "{text}");
     }
     Ok(())
 }
@@ -61,7 +61,7 @@ fn the_first_fault_has_its_line(rt: HostRuntime) -> Result<(), AllocError> {
             "henshin: bad-model /meta/classes/0 supercycle",
         ),
     ] {
-        assert!(rt; tells(rt.alloc(), text, Some(line))?, "{text}");
+        assert!(rt; answers(rt.alloc(), text, Some(line))?, "{text}");
     }
     Ok(())
 }
@@ -90,12 +90,12 @@ fn faults_of_the_graph_have_their_lines(rt: HostRuntime) -> Result<(), AllocErro
             "henshin: bad-graph /graph/1/name twice",
         ),
     ] {
-        assert!(rt; tells(rt.alloc(), text, Some(line))?, "{text}");
+        assert!(rt; answers(rt.alloc(), text, Some(line))?, "{text}");
     }
     Ok(())
 }
 
-/// Whether the problems of the bundle's graph are told by these lines and no others.
+/// Whether the problems of the bundle's graph are reported by these lines and no others.
 fn has_problems(alloc: Global, text: &str, lines: &[&str]) -> Result<bool, AllocError> {
     let bundle = match read_bundle(alloc, text.as_bytes()) {
         Ok(bundle) => bundle,
@@ -106,8 +106,8 @@ fn has_problems(alloc: Global, text: &str, lines: &[&str]) -> Result<bool, Alloc
         expected.push_str(line)?;
         expected.push('\n')?;
     }
-    let told = problems_text(alloc, &bundle.graph.meta, &bundle.graph.graph)?;
-    Ok(told.as_str() == expected.as_str())
+    let text = problems_text(alloc, &bundle.graph.meta, &bundle.graph.graph)?;
+    Ok(text.as_str() == expected.as_str())
 }
 
 #[test]

@@ -62,7 +62,7 @@ fn object(alloc: Global, text: &str) -> Result<RawObject, AllocError> {
     Ok(made)
 }
 
-/// The objects that are written one behind another.
+/// The objects, written in order.
 fn objects(alloc: Global, text: &str) -> Result<List<RawObject>, AllocError> {
     let mut made = List::new(alloc);
     for word in text.split(';') {
@@ -82,7 +82,7 @@ fn answer_to(alloc: Global, text: &str) -> Result<Graph, Failure<GraphFault>> {
     answer(alloc, &objects(alloc, text)?)
 }
 
-fn is_told(
+fn is_reported(
     answer: Result<Graph, Failure<GraphFault>>,
     place: GraphPlace,
     kind: GraphFaultKind,
@@ -136,7 +136,10 @@ fn names_and_classes_are_told(rt: HostRuntime) {
         ("a:Named", GraphPlace::Object { object: 0 }, Abstract),
     ];
     for (text, place, kind) in cases {
-        assert!(rt; is_told(answer_to(rt.alloc(), text), place, kind), "{text}");
+        assert!(rt;
+            is_reported(answer_to(rt.alloc(), text), place, kind),
+            "{text}"
+        );
     }
 }
 
@@ -156,7 +159,10 @@ fn attributes_are_told(rt: HostRuntime) {
     ];
     for (text, object, number, kind) in cases {
         let place = GraphPlace::Attr { object, number };
-        assert!(rt; is_told(answer_to(rt.alloc(), text), place, kind), "{text}");
+        assert!(rt;
+            is_reported(answer_to(rt.alloc(), text), place, kind),
+            "{text}"
+        );
     }
 }
 
@@ -181,7 +187,10 @@ fn references_are_told(rt: HostRuntime) {
         ),
     ];
     for (text, place, kind) in cases {
-        assert!(rt; is_told(answer_to(rt.alloc(), text), place, kind), "{text}");
+        assert!(rt;
+            is_reported(answer_to(rt.alloc(), text), place, kind),
+            "{text}"
+        );
     }
 }
 
@@ -224,7 +233,10 @@ fn checks_come_in_their_order(rt: HostRuntime) {
         ),
     ];
     for (text, place, kind) in cases {
-        assert!(rt; is_told(answer_to(rt.alloc(), text), place, kind), "{text}");
+        assert!(rt;
+            is_reported(answer_to(rt.alloc(), text), place, kind),
+            "{text}"
+        );
     }
 }
 
@@ -262,13 +274,13 @@ fn names_and_texts_have_a_greatest_length(rt: HostRuntime) {
     assert!(rt; name_of(alloc, 1).is_ok());
     assert!(rt; name_of(alloc, 128).is_ok());
     let name = GraphPlace::ObjectName { object: 0 };
-    assert!(rt; is_told(name_of(alloc, 129), name, GraphFaultKind::Name));
+    assert!(rt; is_reported(name_of(alloc, 129), name, GraphFaultKind::Name));
     assert!(rt; text_of(alloc, 65_536).is_ok());
     let value = GraphPlace::Attr {
         object: 0,
         number: 0,
     };
-    assert!(rt; is_told(text_of(alloc, 65_537), value, GraphFaultKind::BadValue));
+    assert!(rt; is_reported(text_of(alloc, 65_537), value, GraphFaultKind::BadValue));
 }
 
 fn many_objects(alloc: Global, count: u32, class: &str) -> Result<Graph, Failure<GraphFault>> {
@@ -298,16 +310,16 @@ fn limits_are_kept(rt: HostRuntime) {
     let alloc = rt.alloc();
     let limit = GraphFaultKind::Limit;
     assert!(rt; many_objects(alloc, 200_000, "Client").is_ok());
-    assert!(rt; is_told(many_objects(alloc, 200_001, "X"), GraphPlace::Graph, limit));
+    assert!(rt; is_reported(many_objects(alloc, 200_001, "X"), GraphPlace::Graph, limit));
     assert!(rt; many_edges(alloc, 400_000, "a").is_ok());
-    assert!(rt; is_told(many_edges(alloc, 400_001, "a"), GraphPlace::Graph, limit));
+    assert!(rt; is_reported(many_edges(alloc, 400_001, "a"), GraphPlace::Graph, limit));
     let target = GraphPlace::Target {
         object: 0,
         number: 0,
         place: 0,
     };
     assert!(rt;
-        is_told(
+        is_reported(
             many_edges(alloc, 400_001, "b"),
             target,
             GraphFaultKind::UnknownTarget

@@ -15,8 +15,8 @@ fn asked(alloc: Global, sessions: &[List<Request>]) -> Result<String, AllocError
     String::from_str(alloc, "nothing")
 }
 
-/// What is asked for in the bundle, or the line that tells why it is refused.
-fn told(alloc: Global, text: &str) -> Result<String, AllocError> {
+/// What is asked for in the bundle, or the line that says why it is refused.
+fn outcome_of(alloc: Global, text: &str) -> Result<String, AllocError> {
     match read_input(alloc, text.as_bytes()) {
         Ok(input) => asked(alloc, input.sessions.as_slice()),
         Err(Failure::Fault(refusal)) => Ok(refusal.line(alloc)?.into_string()),
@@ -44,7 +44,7 @@ fn what_is_asked_for_is_told(rt: HostRuntime) -> Result<(), AllocError> {
             "henshin: not-built",
         ),
     ] {
-        assert!(rt; told(rt.alloc(), text)?.as_str() == asked, "{text}");
+        assert!(rt; outcome_of(rt.alloc(), text)?.as_str() == asked, "{text}");
     }
     Ok(())
 }
@@ -70,7 +70,7 @@ fn the_first_refusal_is_told(rt: HostRuntime) -> Result<(), AllocError> {
             "henshin: bad-unit 1:17 unknownunit",
         ),
     ] {
-        assert!(rt; told(rt.alloc(), text)?.as_str() == line, "{text}");
+        assert!(rt; outcome_of(rt.alloc(), text)?.as_str() == line, "{text}");
     }
     Ok(())
 }
@@ -110,7 +110,7 @@ fn one_rule_that_only_adds_can_be_called(rt: HostRuntime) -> Result<(), AllocErr
     ] {
         let bundle = called(rt.alloc(), rules)?;
         assert!(rt;
-            told(rt.alloc(), bundle.as_str())?.as_str() == answer,
+            outcome_of(rt.alloc(), bundle.as_str())?.as_str() == answer,
             "{rules}"
         );
     }

@@ -17,7 +17,7 @@ fn is_at(alloc: Global, failure: &Failure<Path>, path: &str) -> Result<bool, All
 }
 
 /// What a reader gives: a value, or the path of a fault.
-fn tells<T: Drop>(
+fn answers<T: Drop>(
     alloc: Global,
     read: Result<T, Failure<Path>>,
     path: &str,
@@ -59,7 +59,7 @@ fn read_numbers(alloc: Global, text: &str) -> Result<Option<List<i64>>, AllocErr
 }
 
 fn tells_of_numbers(alloc: Global, text: &str, path: &str) -> Result<bool, AllocError> {
-    tells(alloc, numbers_of(alloc, &json(alloc, text)), path)
+    answers(alloc, numbers_of(alloc, &json(alloc, text)), path)
 }
 
 #[test]
@@ -105,9 +105,9 @@ fn scalars_are_read(rt: HostRuntime) -> Result<(), AllocError> {
     assert!(rt;
         integer_of(alloc, &json(alloc, "9223372036854775807")).is_ok_and(|n| n == i64::MAX)
     );
-    assert!(rt; tells(alloc, integer_of(alloc, &json(alloc, "-0")), "/")?);
-    assert!(rt; tells(alloc, truth_of(alloc, &json(alloc, "1")), "/")?);
-    assert!(rt; tells(alloc, text_of(alloc, &json(alloc, "null")), "/")?);
+    assert!(rt; answers(alloc, integer_of(alloc, &json(alloc, "-0")), "/")?);
+    assert!(rt; answers(alloc, truth_of(alloc, &json(alloc, "1")), "/")?);
+    assert!(rt; answers(alloc, text_of(alloc, &json(alloc, "null")), "/")?);
     Ok(())
 }
 
@@ -163,7 +163,7 @@ fn members_are_told_by_their_keys(rt: HostRuntime) -> Result<(), AllocError> {
     ] {
         let alloc = rt.alloc();
         let read = parts_of(alloc, &json(alloc, text));
-        assert!(rt; tells(alloc, read, path)?, "{text}");
+        assert!(rt; answers(alloc, read, path)?, "{text}");
     }
     Ok(())
 }
@@ -178,6 +178,6 @@ fn a_reader_within_a_reader_is_told_from_outside(rt: HostRuntime) -> Result<(), 
             numbers_of(alloc, value)
         },
     );
-    assert!(rt; tells(alloc, at_key(alloc, "outer", read), "/outer/k/1/name")?);
+    assert!(rt; answers(alloc, at_key(alloc, "outer", read), "/outer/k/1/name")?);
     Ok(())
 }

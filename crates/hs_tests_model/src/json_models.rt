@@ -97,7 +97,7 @@ fn edges_read(alloc: Global, text: &str) -> Option<List<Edge>> {
     Some(read(alloc, &meta, text)?.edges)
 }
 
-/// A text, and behind it the graph of one client.
+/// A text, followed by the graph of one client.
 fn written_behind(alloc: Global) -> Option<String> {
     let meta = model_of(alloc, BANK)?;
     let graph = read(

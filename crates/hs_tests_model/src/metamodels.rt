@@ -87,7 +87,7 @@ fn answer_to(alloc: Global, text: &str) -> Result<(), Failure<ModelFault>> {
     answer(alloc, classes(alloc, text)?)
 }
 
-fn is_told(
+fn is_reported(
     answer: Result<(), Failure<ModelFault>>,
     place: ModelPlace,
     kind: ModelFaultKind,
@@ -160,7 +160,10 @@ fn names_and_supers_are_told(rt: HostRuntime) {
         ),
     ];
     for (text, place, kind) in cases {
-        assert!(rt; is_told(answer_to(rt.alloc(), text), place, kind), "{text}");
+        assert!(rt;
+            is_reported(answer_to(rt.alloc(), text), place, kind),
+            "{text}"
+        );
     }
 }
 
@@ -175,7 +178,7 @@ fn features_of_one_name_are_told(rt: HostRuntime) {
     for (text, class) in cases {
         let answer = answer_to(rt.alloc(), text);
         assert!(rt;
-            is_told(answer, ModelPlace::Class { class }, ModelFaultKind::Twice),
+            is_reported(answer, ModelPlace::Class { class }, ModelFaultKind::Twice),
             "{text}"
         );
     }
@@ -199,7 +202,10 @@ fn checks_come_in_their_order(rt: HostRuntime) {
         ("A.x.x B:B", ModelPlace::Class { class: 1 }, SuperCycle),
     ];
     for (text, place, kind) in cases {
-        assert!(rt; is_told(answer_to(rt.alloc(), text), place, kind), "{text}");
+        assert!(rt;
+            is_reported(answer_to(rt.alloc(), text), place, kind),
+            "{text}"
+        );
     }
 }
 
@@ -218,7 +224,7 @@ fn one_attribute(
 }
 
 fn is_bad_default(answer: Result<(), Failure<ModelFault>>) -> bool {
-    is_told(
+    is_reported(
         answer,
         ModelPlace::AttributeDefault {
             class: 0,
@@ -306,7 +312,7 @@ fn unknown_types_are_told(rt: HostRuntime) {
             number: 0,
         };
         assert!(rt;
-            is_told(answer, place, ModelFaultKind::UnknownType),
+            is_reported(answer, place, ModelFaultKind::UnknownType),
             "{data_type}"
         );
     }
@@ -348,8 +354,8 @@ fn bounds_leave_room(rt: HostRuntime) {
             number: 0,
         };
         let is_right = answer.is_ok();
-        let told = is_told(answer, place, ModelFaultKind::BadBounds);
-        assert!(rt; if fits { is_right } else { told }, "{lower} {upper}");
+        let reported = is_reported(answer, place, ModelFaultKind::BadBounds);
+        assert!(rt; if fits { is_right } else { reported }, "{lower} {upper}");
     }
 }
 
@@ -360,7 +366,7 @@ fn unknown_targets_are_told(rt: HostRuntime) {
         class: 0,
         number: 0,
     };
-    assert!(rt; is_told(answer, place, ModelFaultKind::UnknownType));
+    assert!(rt; is_reported(answer, place, ModelFaultKind::UnknownType));
 }
 
 fn many_classes(alloc: Global, count: u32) -> Result<(), Failure<ModelFault>> {
@@ -391,12 +397,12 @@ fn limits_are_kept(rt: HostRuntime) {
     let alloc = rt.alloc();
     let limit = ModelFaultKind::Limit;
     assert!(rt; many_classes(alloc, 256).is_ok());
-    assert!(rt; is_told(many_classes(alloc, 257), ModelPlace::Classes, limit));
+    assert!(rt; is_reported(many_classes(alloc, 257), ModelPlace::Classes, limit));
     assert!(rt; many_attributes(alloc, 64, "B:A").is_ok());
     let inherited = many_attributes(alloc, 64, "B.y:A");
-    assert!(rt; is_told(inherited, ModelPlace::Class { class: 1 }, limit));
+    assert!(rt; is_reported(inherited, ModelPlace::Class { class: 1 }, limit));
     let own = many_attributes(alloc, 65, "B");
-    assert!(rt; is_told(own, ModelPlace::Class { class: 0 }, limit));
+    assert!(rt; is_reported(own, ModelPlace::Class { class: 0 }, limit));
 }
 
 fn built(alloc: Global, text: &str) -> Result<Meta, Failure<ModelFault>> {
@@ -451,7 +457,7 @@ fn faults_are_told_of_what_is_built(rt: HostRuntime) {
         Err(fault) => Err(fault),
     };
     assert!(rt;
-        is_told(
+        is_reported(
             answer,
             ModelPlace::Class { class: 2 },
             ModelFaultKind::Twice

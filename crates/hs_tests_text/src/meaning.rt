@@ -260,7 +260,7 @@ fn last_of(alloc: Global, text: &str) -> Result<String, AllocError> {
     }
 }
 
-/// The first line of the table whose text doesn't mean what stands behind its bars.
+/// The first line of the table whose text doesn't denote what follows its bars.
 fn first_wrong(alloc: Global, table: &str) -> Result<Option<String>, AllocError> {
     for line in table.lines() {
         let Some((text, wanted)) = line.split_once(" || ") else {

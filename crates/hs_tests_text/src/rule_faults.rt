@@ -14,8 +14,8 @@ use std::test::Fail;
 pub const MODEL: &str =
     r#"{"classes":[{"name":"Thing","abstract":true,"attributes":[{"name":"name","type":"EString"}]},{"name":"Client","supers":["Thing"],"references":[{"name":"accounts","target":"Account","upper":-1}]},{"name":"Account","supers":["Thing"],"attributes":[{"name":"balance","type":"EInt"},{"name":"open","type":"EBoolean"}],"references":[{"name":"owner","target":"Client","upper":-1},{"name":"about","target":"Thing","upper":-1}]},{"name":"Ghost","abstract":true}]}"#;
 
-/// What is told of the rules of the text: `line:column kind`, or `fine`.
-fn told(alloc: Global, meta: &Meta, text: &str) -> Result<String, AllocError> {
+/// What is reported of the rules of the text: `line:column kind`, or `fine`.
+fn report_of(alloc: Global, meta: &Meta, text: &str) -> Result<String, AllocError> {
     let Ok(syntax) = parse(alloc, text) else {
         return String::from_str(alloc, "no text");
     };
@@ -28,8 +28,8 @@ fn told(alloc: Global, meta: &Meta, text: &str) -> Result<String, AllocError> {
     }
 }
 
-/// Whether a fault of this kind is told where the second part of the text begins.
-fn is_told(alloc: Global, front: &str, back: &str, kind: &str) -> Result<bool, AllocError> {
+/// Whether a fault of this kind is reported where the second part of the text begins.
+fn is_reported(alloc: Global, front: &str, back: &str, kind: &str) -> Result<bool, AllocError> {
     let mut text = String::from_str(alloc, front)?;
     text.push_str(back)?;
     let wanted = format!(in alloc; "1:{} {kind}", front.len().saturating_add(1))?;
@@ -38,7 +38,7 @@ fn is_told(alloc: Global, front: &str, back: &str, kind: &str) -> Result<bool, A
 
 fn is_answer(alloc: Global, text: &str, wanted: &str) -> Result<bool, AllocError> {
     match model_of(alloc, MODEL) {
-        Some(meta) => Ok(told(alloc, &meta, text)?.as_str() == wanted),
+        Some(meta) => Ok(report_of(alloc, &meta, text)?.as_str() == wanted),
         None => Ok(false),
     }
 }
@@ -123,7 +123,10 @@ fn parameters_and_nodes_are_checked(rt: HostRuntime) -> Result<(), Fail> {
         ),
     ];
     for (front, back, kind) in cases {
-        assert!(rt; is_told(rt.alloc(), front, back, kind)?, "{front}{back}");
+        assert!(rt;
+            is_reported(rt.alloc(), front, back, kind)?,
+            "{front}{back}"
+        );
     }
     Ok(())
 }
@@ -188,7 +191,10 @@ fn edges_are_checked(rt: HostRuntime) -> Result<(), Fail> {
         ),
     ];
     for (front, back, kind) in cases {
-        assert!(rt; is_told(rt.alloc(), front, back, kind)?, "{front}{back}");
+        assert!(rt;
+            is_reported(rt.alloc(), front, back, kind)?,
+            "{front}{back}"
+        );
     }
     Ok(())
 }
@@ -239,7 +245,10 @@ fn sets_are_checked(rt: HostRuntime) -> Result<(), Fail> {
         ),
     ];
     for (front, back, kind) in cases {
-        assert!(rt; is_told(rt.alloc(), front, back, kind)?, "{front}{back}");
+        assert!(rt;
+            is_reported(rt.alloc(), front, back, kind)?,
+            "{front}{back}"
+        );
     }
     Ok(())
 }
@@ -287,7 +296,10 @@ fn conditions_are_checked(rt: HostRuntime) -> Result<(), Fail> {
         ),
     ];
     for (front, back, kind) in cases {
-        assert!(rt; is_told(rt.alloc(), front, back, kind)?, "{front}{back}");
+        assert!(rt;
+            is_reported(rt.alloc(), front, back, kind)?,
+            "{front}{back}"
+        );
     }
     Ok(())
 }
@@ -308,7 +320,7 @@ fn repeated(
     Ok(text)
 }
 
-/// A rule with so many nodes, and with these items behind.
+/// A rule with n nodes, followed by these items.
 fn with_nodes(alloc: Global, count: u32, back: &str) -> Result<String, AllocError> {
     let mut text = String::from_str(alloc, "rule r() {")?;
     for i in 0..count {
@@ -372,8 +384,8 @@ fn limits_are_kept(rt: HostRuntime) -> Result<(), Fail> {
 #[test]
 fn rules_go_one_by_one(rt: HostRuntime) -> Result<(), Fail> {
     let alloc = rt.alloc();
-    assert!(rt; is_told(alloc, "rule r() { } rule ", "r() { }", "Twice")?);
-    assert!(rt; is_told(alloc, "rule r() { ", "where 1; } rule r() { }", "BadKind")?);
+    assert!(rt; is_reported(alloc, "rule r() { } rule ", "r() { }", "Twice")?);
+    assert!(rt; is_reported(alloc, "rule r() { ", "where 1; } rule r() { }", "BadKind")?);
     assert!(rt; is_answer(alloc, with_rules(alloc, 63)?.as_str(), "64:6 Twice")?);
     assert!(rt; is_answer(alloc, with_rules(alloc, 64)?.as_str(), "65:6 Limit")?);
     Ok(())

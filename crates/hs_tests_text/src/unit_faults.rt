@@ -9,8 +9,8 @@ use hs_types::Meta;
 use std::alloc::{AllocError, Global};
 use std::test::Fail;
 
-/// What is told of the text: `rule` or `unit`, and `line:column kind`, or `fine`.
-fn told(alloc: Global, meta: &Meta, text: &str) -> Result<String, AllocError> {
+/// What is reported of the text: `rule` or `unit`, and `line:column kind`, or `fine`.
+fn report_of(alloc: Global, meta: &Meta, text: &str) -> Result<String, AllocError> {
     let Ok(syntax) = parse(alloc, text) else {
         return String::from_str(alloc, "no text");
     };
@@ -29,13 +29,13 @@ fn told(alloc: Global, meta: &Meta, text: &str) -> Result<String, AllocError> {
 
 fn is_answer(alloc: Global, text: &str, wanted: &str) -> Result<bool, AllocError> {
     match model_of(alloc, MODEL) {
-        Some(meta) => Ok(told(alloc, &meta, text)?.as_str() == wanted),
+        Some(meta) => Ok(report_of(alloc, &meta, text)?.as_str() == wanted),
         None => Ok(false),
     }
 }
 
-/// Whether this fault of a unit is told where the second part of the text begins.
-fn is_told(alloc: Global, front: &str, back: &str, kind: &str) -> Result<bool, AllocError> {
+/// Whether this fault of a unit is reported where the second part of the text begins.
+fn is_reported(alloc: Global, front: &str, back: &str, kind: &str) -> Result<bool, AllocError> {
     let mut text = String::from_str(alloc, front)?;
     text.push_str(back)?;
     let wanted = format!(in alloc; "unit 1:{} {kind}", front.len().saturating_add(1))?;
@@ -86,7 +86,10 @@ fn names_and_parameters_are_checked(rt: HostRuntime) -> Result<(), Fail> {
         ("unit u(out ", "a: text) sequential { v(); }", "ArgMismatch"),
     ];
     for (front, back, kind) in cases {
-        assert!(rt; is_told(rt.alloc(), front, back, kind)?, "{front}{back}");
+        assert!(rt;
+            is_reported(rt.alloc(), front, back, kind)?,
+            "{front}{back}"
+        );
     }
     Ok(())
 }
@@ -159,7 +162,7 @@ fn calls_are_checked(rt: HostRuntime) -> Result<(), Fail> {
     for (front, back, kind) in cases {
         let text = format!(in alloc; "{back}{callee}")?;
         assert!(rt;
-            is_told(alloc, front, text.as_str(), kind)?,
+            is_reported(alloc, front, text.as_str(), kind)?,
             "{front}{back}"
         );
     }
@@ -217,7 +220,10 @@ fn other_faults_of_units_are_told(rt: HostRuntime) -> Result<(), Fail> {
         ),
     ];
     for (front, back, kind) in cases {
-        assert!(rt; is_told(rt.alloc(), front, back, kind)?, "{front}{back}");
+        assert!(rt;
+            is_reported(rt.alloc(), front, back, kind)?,
+            "{front}{back}"
+        );
     }
     assert!(rt;
         is_answer(

@@ -9,7 +9,7 @@ use Rattle.hs_text.specs.declared.grammar.Part.TheVariants as part
 use Rattle.hs_text.specs.declared.grammar.Production.{Production}
 use Rattle.hs_text.specs.declared.grammar.Production.TheVariants as production
 
--- Kinds, productions and parts by numbers, to go over all kinds and to tell two apart by computation.
+-- Kinds, productions and parts by numbers, to go over all kinds and to distinguish two by computation.
 
 unfoldable pub kinds : List Kind
 kinds = kind.Name ∷ kind.Int ∷ kind.Text ∷ kind.Rule ∷ kind.Unit ∷ kind.In ∷ kind.Out ∷ kind.Preserve ∷ kind.Create ∷ kind.Delete ∷ kind.Forbid ∷ kind.Require ∷ kind.Multi ∷ kind.Node ∷ kind.Edge ∷ kind.Set ∷ kind.Where ∷ kind.Sequential ∷ kind.Independent ∷ kind.Priority ∷ kind.Conditional ∷ kind.If ∷ kind.Then ∷ kind.Else ∷ kind.Loop ∷ kind.Iterated ∷ kind.And ∷ kind.Or ∷ kind.Not ∷ kind.True ∷ kind.False ∷ kind.IntWord ∷ kind.Bool ∷ kind.TextWord ∷ kind.LeftParen ∷ kind.RightParen ∷ kind.LeftBrace ∷ kind.RightBrace ∷ kind.Colon ∷ kind.Semicolon ∷ kind.Comma ∷ kind.Dot ∷ kind.Arrow ∷ kind.Assign ∷ kind.Equal ∷ kind.NotEqual ∷ kind.Less ∷ kind.AtMost ∷ kind.Greater ∷ kind.AtLeast ∷ kind.Plus ∷ kind.Minus ∷ kind.Times ∷ []

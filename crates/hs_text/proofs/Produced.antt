@@ -24,7 +24,7 @@ use Rattle.hs_text.specs.Machine.{Derives, done, skip, keep, act, by, part_of, r
 sample : Kind → Token
 sample k = record { kind = k; number = pos 0; span = record { start = 0; end = 0; line = 1; column = 1 } }
 
--- one kind of token that may stand where a term is
+-- one kind of token that may be where a term is
 term-kind : Term → Kind
 term-kind (term.Just k) = k
 term-kind term.Word = kind.Name

@@ -141,7 +141,7 @@ says-text source (d ∷ ds) h =
           (line-then source (IsDefinition source) unplaced_definition d ds (words rest) (words (lines_marks next ds rest)) q.front q.back q.made q.is q.same q.left (λ us r. v.read rest us r));
     }
 
--- nothing is left behind the last token
+-- Nothing is left after the last token.
 all-read : (source : List ℕ) (ds : List Definition) (ts : List Token) → Read source (IsText source) unplaced ds [] ts → (es : List Definition) × IsText source ts es × (unplaced es ≡ unplaced ds)
 all-read source ds ts r = step r.front r.back r.made r.whole r.left r.is r.same where
   step : (front back : List Token) (made : List Definition) → ts ≡ front ++ back → Spells source [] back → IsText source front made → unplaced made ≡ unplaced ds → (es : List Definition) × IsText source ts es × (unplaced es ≡ unplaced ds)

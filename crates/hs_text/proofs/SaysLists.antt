@@ -11,7 +11,7 @@ use Rattle.hs_text.proofs.Says.{Read, Says, term-is}
 
 -- LISTS, LINES AND BLOCKS
 
--- as `Says`, whatever comes behind
+-- As `Says`, whatever follows.
 pub record SaysLine {X : Type 0} (source : List ℕ) (P : List Token → X → Type 0) (bare : X → X) (x : X) (marks : List Mark → List Mark) (bytes : List ℕ) : Type 0 where
   pub spaced : (rest : List Mark) → IsSpaced rest → IsSpaced (marks rest)
   pub text : (rest : List Mark) → written (marks rest) ≡ bytes ++ written rest

@@ -46,7 +46,7 @@ module _ (moves : PositionsMove) (source : List ℕ) where
     length-append before front ∙ ap (λ n. n + length front) e ∙ sym (moves p front),
   )
 
-  -- each token of a text is spelled with what stands at its place
+  -- each token of a text is spelled with what is at its place
   pub tokens-spelt : (before : List ℕ) {p : Position} {cs : List ℕ} {ts : List Token} {e : Ending} → source ≡ before ++ cs → length before ≡ p.index → Lexes p cs ts e → AreSpelt source ts × AreLaid p.index ts
   tokens-spelt before w i nothing = (tt, tt)
   tokens-spelt before {p} w i (blank {ts} c cs b l) =

@@ -32,7 +32,7 @@ use Rattle.hs_text.proofs.Spellings.{word-fine, name-fine, number-fine, literal-
 
 -- WHAT IS PARSED IS WELL-FORMED
 
--- of two lists, one behind the other
+-- Of two lists in order.
 every-both : {X : Type 0} (P : X → Type 0) (xs ys : List X) → AllByRecursion P xs → AllByRecursion P ys → AllByRecursion P (xs ++ ys)
 every-both P [] ys h k = k
 every-both P (x ∷ xs) ys h k = (h.0, every-both P xs ys h.1 k)

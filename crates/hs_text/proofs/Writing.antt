@@ -150,7 +150,7 @@ module _ (source : List ℕ) where
   write-call (call n o c {ts} {bs} i j s x) ss vs b f h k = by production.Call refl (keep i (skip j (at-tokens (append_assoc ts (c ∷ []) vs)
       (write-bind-list s (Skip kind.RightParen ∷ Act action.Call ∷ ss) (c ∷ vs) (with_token n b) f (skip x (act (at-builder (call-same source b n bs h) k)))))))
 
-  -- a call and the semicolon behind it
+  -- A call and the semicolon after it.
   write-call-then : {us : List Token} {c : Call} → CallThen source us c → (ss : List Symbol) (vs : List Token) (b f : Builder) → b.binds ≡ [] → Derives source ss vs (record b { calls = c ∷ b.calls }) f → Derives source (Sub part.Call ∷ Skip kind.Semicolon ∷ ss) (us ++ vs) b f
   write-call-then (before t {ts} p i) ss vs b f h k = at-tokens (append_assoc ts (t ∷ []) vs) (write-call p (Skip kind.Semicolon ∷ ss) (t ∷ vs) b f h (skip i k))
 

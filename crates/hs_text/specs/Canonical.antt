@@ -137,7 +137,7 @@ line margin text = margin ++ text ++ codes ";\n"
 abbrev pub block : List ℕ → List ℕ → List ℕ → List ℕ
 block margin opening lines = margin ++ opening ++ codes " {\n" ++ lines ++ margin ++ codes "}\n"
 
--- The lines of a rule or a unit stand at one level, those of a block in a rule at two.
+-- The lines of a rule or a unit are indented by one level, those of a block in a rule by two.
 abbrev pub one_level : List ℕ
 one_level = codes "  "
 

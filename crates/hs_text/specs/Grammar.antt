@@ -1,5 +1,5 @@
 -- The grammar, production by production: which tokens are the text of which syntax. `source` has
--- the characters of the whole text, of which names and texts are parts.
+-- the characters of the text, of which names and texts are parts.
 use Rattle.std.specs.Prelude.{ℕ, true, List, [], ◌∷◌, ◌++◌, Option}
 use Rattle.hs_expr.specs.declared.Piece.{Piece}
 use Rattle.hs_expr.specs.declared.Piece.TheVariants as piece

@@ -352,7 +352,7 @@ abbrev pub production_of : Part → Kind → Option Production
 production_of n k = choice_or (choice_of n k) (empty_of n)
 
 -- The tokens are a text of these symbols, and reading them takes the one builder to the other. The
--- characters are those of the whole text.
+-- characters are those of the text.
 pub data Derives (source : List ℕ) : List Symbol → List Token → Builder → Builder → Type 0 where
   done : {b : Builder} → Derives source [] [] b b
   skip : {k : Kind} {t : Token} {ss : List Symbol} {ts : List Token} {b f : Builder}
@@ -373,7 +373,7 @@ begins (Keep w ∷ ss) k = matches w k
 begins (Act a ∷ ss) k = begins ss k
 begins (Sub n ∷ ss) k = is_some (choice_of n k) || (is_some (empty_of n) && begins ss k)
 
--- Whether a token of this kind may stand after a part.
+-- Whether a token of this kind may follow a part.
 abbrev pub follows : Part → Kind → Bool
 follows part.Definition kind.Rule = true
 follows part.Definition kind.Unit = true

@@ -7,7 +7,7 @@ use Rattle.hs_text.specs.declared.grammar.Term.TheVariants as term
 use Rattle.hs_tokens.specs.declared.token.Token.{Token}
 use Rattle.hs_tokens.specs.Kinds.{same}
 
--- Whether a token of this kind may stand where the grammar has this term.
+-- Whether a token of this kind may be where the grammar has this term.
 abbrev pub matches : Term → Kind → Bool
 matches (term.Just j) k = same j k
 matches term.Word kind.Name = true

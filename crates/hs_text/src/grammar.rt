@@ -1,6 +1,6 @@
 use hs_tokens::Kind;
 
-/// The tokens that may stand in a place of the grammar.
+/// The tokens that may be at a place of the grammar.
 #[derive(Clone, Copy)]
 pub enum Term {
     /// A token of this kind.

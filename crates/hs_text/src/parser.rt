@@ -21,7 +21,7 @@ use hs_tokens::{FaultKind, Kind, Scanned, TextFault, Token};
 use std::alloc::{AllocError, Global};
 use std::mem;
 
-// Whether a token of this kind may stand where the grammar has this term.
+// Whether a token of this kind may be where the grammar has this term.
 fn may_stand(term: Term, kind: Kind) -> bool
     ensures { result ≡ matches term kind }
 {
@@ -164,7 +164,7 @@ fn take(
     Ok(false)
 }
 
-// Holds the token, if it may stand there.
+// Keeps the token, if it may be there.
 fn keep(builder: &mut Builder, term: Term, token: Token) -> Result<bool, AllocError>
     ensures may { IfOk result (λ b. b ≡ matches term token.kind) }
     ensures held { IfOk result (λ b. OnTrue b (builder.new ≡ with_token token builder.old)) }

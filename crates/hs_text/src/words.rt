@@ -1,4 +1,4 @@
-//! What the tokens of a text stand for.
+//! What the tokens of a text denote.
 
 ghost use Rattle.std.specs.Prelude.{◌≡◌, ℕ, false, IfOk, drop, encode_utf8_all, string_bytes};
 ghost use Rattle.hs_text.specs.Words as spec;

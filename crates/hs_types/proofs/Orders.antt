@@ -4,7 +4,7 @@ use Rattle.hs_expr.specs.Lexicographic.{IsBefore}
 use Rattle.hs_types.specs.declared.matching.Extension.{Extension}
 use Rattle.hs_types.specs.MatchOrder.{IsEarlier}
 
--- Of lists of one length the first parts decide, and else the second: the order of pairs is that of the lists one behind the other.
+-- Of lists of one length the first parts decide, and else the second: the order of pairs is that of the lists put together.
 IsBefore-appended : (as' bs cs ds : List ℕ) → length as' ≡ length bs → IsBefore as' bs ⊎ ((as' ≡ bs) × IsBefore cs ds) → IsBefore (as' ++ cs) (bs ++ ds)
 IsBefore-appended [] [] cs ds l (inl h) = absurd h
 IsBefore-appended [] [] cs ds l (inr h) = h.1

@@ -170,6 +170,6 @@ row_at supers c d h = ap (λ row. get_or row c false) (get_or-map-range_with_len
 pub says_reaches : (supers : List (List ℕ)) (c d : ℕ) → (reaches supers c d ≡ true) ↔ Reaches supers c d
 says_reaches supers c d = (marked_reached supers d (length supers) c, reached_marked supers c d)
 
--- One more row stands behind the others.
+-- One more row at the end.
 pub one_row_more : {X : Type 0} (f : ℕ → X) (n : ℕ) → map f (range_with_len 0 (n + 1)) ≡ map f (range_with_len 0 n) ++ f n ∷ []
 one_row_more f n = map-range_with_len_more f 0 n n (omega arith)

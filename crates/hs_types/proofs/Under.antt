@@ -11,7 +11,7 @@ use Rattle.hs_types.specs.Reachability.{HasEdge, Reaches, direct, by_way_of, rea
 use Rattle.std.proofs.lemmas.List.{length-map}
 use Rattle.hs_types.proofs.Paths.{row_at, says_reaches}
 
--- A class and its supertypes stand at one place.
+-- A class and its supertypes are at one place.
 to_extends : (classes : List Class) (c d : ℕ) → IsSomeAnd (slice_get classes c) (λ class. has class.supers d ≡ true) → HasEdge (map (λ class. class.supers) classes) c d
 to_extends [] c d is = absurd is
 to_extends (class ∷ classes) zero d is = is

@@ -57,7 +57,7 @@ IsOfKind (kind.Object class) (arg.Object name) = Unit {0}
 IsOfKind _ _ = ⊥
 
 -- The arguments are those that the rule takes: one of the right kind for each in parameter, and no
--- other. Each name stands once, in the order of its bytes.
+-- other. Each name is there once, in byte order.
 pub record ArgsFit (params : List Param) (args : Args) : Type 0 where
   pub names_rise : EachPair (λ a b. IsBefore a.name b.name) args.list
   pub each_given : All (λ param. is_in param.direction ≡ true

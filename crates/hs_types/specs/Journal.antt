@@ -90,7 +90,7 @@ OutcomeAsks m g rule args (Applied found new old gone) asked =
 OutcomeAsks m g rule args Missed cause.Valid = NoneIsValid m g rule args
 OutcomeAsks m g rule args Missed _ = Unit {0}
 
--- What each cause asks of an attempt in the graph where it stands.
+-- What each cause asks of an attempt, in the graph before it.
 abbrev pub Asks : RuleSet → Graph → Tried → Cause → Type 0
 Asks rules g tried cause.Rule =
     IsSomeAnd (rule_of rules tried) (λ rule. ArgsFit rule.params tried.args)
@@ -152,18 +152,18 @@ tries_made entries session request =
 pub record IsNumbered (before : List Entry) (place : ℕ) (entry : Entry) : Type 0 where
   pub at_its_place : place ≡ length before
   pub within_sessions : entry.session < 64
-  pub not_behind : All
+  pub requests_rise : All
       (λ earlier. earlier.session ≡ entry.session → earlier.request ≤ entry.request) before
   pub tries_numbered : map (λ tried. tried.attempt) (tries_in entry.what) ≡ range_with_len
       (tries_made before entry.session entry.request) (length (tries_in entry.what))
 
--- The entry is lawful at this place, behind these entries and in the graph after them.
+-- The entry is lawful at this place, after these entries and in the graph after them.
 pub record IsLawfulEntry (rules : RuleSet) (before : List Entry) (g : Graph) (place : ℕ)
     (entry : Entry) : Type 0 where
   pub numbered : IsNumbered before place entry
   pub tries : AreLawfulTries rules g (tries_in entry.what)
 
--- Each entry is lawful where it stands.
+-- Each entry is lawful at its place.
 abbrev pub IsLawful : RuleSet → Graph → List Entry → Type 0
 IsLawful rules opening entries =
     (place : ℕ) → IfSome (slice_get entries place) (IsLawfulEntry rules (take place entries)

@@ -31,7 +31,7 @@ pub record IsSmallShape (nodes : List PatternNode) (edges : List PatternEdge) : 
   pub few_edges : length edges ≤ MAX_PATTERN_EDGES
   pub few_parallel : All (λ edge. parallel_to edge edges ≤ MAX_PARALLEL_EDGES) edges
 
--- No operator stands below more than 31 others.
+-- No operator is below more than 31 others.
 abbrev pub AreFlat : List Expr → List SetItem → Type 0
 AreFlat wheres sets =
     All (λ expr. nesting expr ≤ MAX_NESTING) wheres

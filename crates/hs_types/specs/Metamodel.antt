@@ -105,7 +105,7 @@ attributes_of m c = filter (λ f. is_some (type_of m f)) (features_of m c)
 abbrev pub owned_by : Metamodel → ℕ → List ℕ
 owned_by m c = places (λ feature. eqb feature.owner c) m.features
 
--- Features stand class by class, and of one class its attributes before its references.
+-- Features are numbered class by class, and of one class its attributes before its references.
 abbrev pub StandBefore : Feature → Feature → Type 0
 StandBefore f g =
     (f.owner < g.owner) ⊎ ((f.owner ≡ g.owner) × (is_attribute g ≡ true → is_attribute f ≡ true))

@@ -1,4 +1,4 @@
--- What names stand for in a metamodel.
+-- What names denote in a metamodel.
 use Rattle.std.specs.Prelude.{ℕ, List, Option}
 use Rattle.std.specs.List.{position}
 use Rattle.hs_expr.specs.Lists.{same_text}

@@ -13,8 +13,8 @@ use Rattle.hs_expr.specs.Lists.{Differ}
 use Rattle.hs_types.specs.Pattern.{left_nodes, left_edges, no_shape}
 use Rattle.hs_types.specs.TypedGraph.{edge_at, IsOf}
 
--- The images of left nodes stand in a list, in written order. That of node n stands behind those of
--- the left nodes before it.
+-- The images of left nodes are a list, in written order. That of node n follows those of the left
+-- nodes before it.
 abbrev pub image : List PatternNode → List ℕ → ℕ → ℕ
 image nodes images n = slice_index images (length (left_nodes (take n nodes)))
 

@@ -127,7 +127,7 @@ plan_of m g rule args f =
           ++ copy_edges rule kernel 0 copies;
     }
 
--- The fact holds of the class of an end of a made edge, which stays where it stands or is made.
+-- The fact holds of the class of an end of a made edge, which is an object that stays or is made.
 abbrev pub EndIs : Graph → Plan → (ℕ → Type 0) → End → Type 0
 EndIs g plan P (Old n) = Stands g P n × (has plan.drop_objects n ≡ false)
 EndIs g plan P (New i) = IsSomeAnd (slice_get plan.make_objects i) (λ object. P object.class)

@@ -78,7 +78,7 @@ SetFits m scope nodes item =
     EndFits (λ mark. not (is_drop mark)) nodes (λ c. has (attributes_of m c) item.attribute ≡ true)
     item.node × (kind_in scope item.value ≡ option_map kind_of_type (type_of m item.attribute))
 
--- Of one class slots stand in the order of its features: attributes, then links, then the
+-- The slots of one class are in the order of its features: attributes, then links, then the
 -- container.
 abbrev pub KindBefore : List ℕ → SlotKind → SlotKind → Type 0
 KindBefore features (Attribute a) (Attribute b) =

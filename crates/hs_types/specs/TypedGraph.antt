@@ -14,7 +14,7 @@ use Rattle.hs_types.specs.declared.rule.SlotKind.TheVariants.{Attribute, Link, C
 use Rattle.hs_expr.specs.Lists.{has, same_text, Differ, EachPair, Rise}
 use Rattle.hs_types.specs.Metamodel.{Conforms, IsConcrete, attributes_of, features_of, fits, target_of}
 
--- What stands at a number.
+-- The object and the edge of a number.
 abbrev pub object_at : Graph → ℕ → Option Object
 object_at g n = find (λ object. eqb object.number n) g.objects
 
@@ -39,15 +39,15 @@ value_at g n (Attribute a) = option_and_then (λ object. value_in a object.slots
 value_at g n (Link r) = None
 value_at g n Container = None
 
--- At n stands an object, and the fact holds of its class.
+-- n is an object, and the fact holds of its class.
 abbrev pub Stands : Graph → (ℕ → Type 0) → ℕ → Type 0
 Stands g P n = IsSomeAnd (object_at g n) (λ object. P object.class)
 
--- At n stands an object whose class conforms to this one.
+-- n is an object whose class conforms to this one.
 abbrev pub IsOf : Metamodel → Graph → ℕ → ℕ → Type 0
 IsOf m g class n = Stands g (λ c. Conforms m c class) n
 
--- At n stands an object whose class has this feature.
+-- n is an object whose class has this feature.
 abbrev pub HasFeature : Metamodel → Graph → ℕ → ℕ → Type 0
 HasFeature m g f n = Stands g (λ c. has (features_of m c) f ≡ true) n
 
@@ -70,7 +70,7 @@ CanJoin m g source reference target =
     HasFeature m g reference source
     × IsSomeAnd (target_of m reference) (λ class. IsOf m g class target)
 
--- Objects and edges stand in the order of their numbers, which differ and are below the next ones.
+-- Objects and edges are in the order of their numbers, which differ and are below the next ones.
 -- Names differ; where one is `#` and the digits of a number, that number is below the next name's.
 pub record IsTyped (m : Metamodel) (g : Graph) : Type 0 where
   pub objects_rise : Rise 0 (map (λ object. object.number) g.objects) g.next_object
@@ -80,7 +80,7 @@ pub record IsTyped (m : Metamodel) (g : Graph) : Type 0 where
   pub objects_fit : All (λ object. AreSlotsOf m object.class object.slots) g.objects
   pub edges_fit : All (λ edge. CanJoin m g edge.source edge.reference edge.target) g.edges
 
--- Edges stand object by object, and of one object in the order of its class's features.
+-- Edges are in the order of their sources, and of one source in the order of its class's features.
 abbrev pub EdgeBefore : Metamodel → Graph → Edge → Edge → Type 0
 EdgeBefore m g e f =
     (e.source < f.source) ⊎ ((e.source ≡ f.source)

@@ -1,4 +1,4 @@
--- The form of units and of whole rule sets: what the check of a text promises of the set that it
+-- The form of units and of rule sets: what the check of a text promises of the set that it
 -- lets through.
 use Rattle.std.specs.Prelude.{ℕ, ◌≤◌, ◌≡◌, List, ◌++◌, map, length, true, Option, Some, None, IsSome, IsSomeAnd, slice_get}
 use Rattle.std.specs.List.{All, filter_map, find, list_any}
@@ -39,15 +39,15 @@ abbrev pub params_of : List Rule → List RuleUnit → Callee → Option (List P
 params_of rules units (callee.Rule place) = option_map (λ rule. rule.params) (slice_get rules place)
 params_of rules units (callee.Unit place) = option_map (λ unit. unit.params) (slice_get units place)
 
--- What has the one kind can stand where the other is wanted: data of one kind, or an object of a
--- class that conforms.
+-- What is of the one kind fits the other: data of the same kind, or an object of a class that
+-- conforms.
 abbrev pub KindFits : Metamodel → ParamKind → ParamKind → Type 0
 KindFits m (Data given) (Data wanted) = given ≡ wanted
 KindFits m (Object given) (Object wanted) = Conforms m given wanted
 KindFits m given wanted = ⊥
 
 -- What a call gives to a parameter of this kind: a value of it, or what a parameter of the unit
--- stands for, in or out.
+-- holds, in or out.
 abbrev pub AtomFits : Metamodel → List Param → Atom → ParamKind → Type 0
 AtomFits m own (atom.Value v) wanted = Data (kind_of v) ≡ wanted
 AtomFits m own (atom.Name name) wanted =

@@ -66,7 +66,7 @@ abbrev pub NoneIsAfter : Metamodel → Graph → Rule → Args → Match → Typ
 NoneIsAfter m g rule args after =
     (f : Match) → IsValid m g rule args f → IsEarlier (kernel_of after) (kernel_of f) → ⊥
 
--- What a search answers behind a match: the next valid one in order, or nothing where no later one
+-- What a search answers after a match: the next valid one in order, or nothing where no later one
 -- is valid.
 abbrev pub IsNext : Metamodel → Graph → Rule → Args → Match → Option Match → Type 0
 IsNext m g rule args after answer =

@@ -11,7 +11,7 @@ use crate::{Class, ClassNo, Feature, FeatureNo, Metamodel};
 use hs_expr::{List, Text};
 use std::marker::Model;
 
-/// A metamodel with its conformance closed, so that one look tells whether a class conforms to
+/// A metamodel with its conformance closed, so that one look-up decides whether a class conforms to
 /// another. Contracts see it as the plain [`Metamodel`]; [`Meta::is_metamodel`] says that it is
 /// one.
 #[derive(Debug, Drop)]

@@ -85,7 +85,7 @@ pub enum Direction {
     Out,
 }
 
-/// What a parameter stands for: a value of a kind, or an object that conforms to a class.
+/// What a parameter takes: a value of a kind, or an object that conforms to a class.
 #[derive(Clone, Copy, PartialEq, Eq, Debug)]
 pub enum ParamKind {
     Data(Kind),

@@ -8,7 +8,7 @@ pub enum Callee {
     Unit(u16),
 }
 
-/// What a call hands to a parameter: a value, or what a parameter of the calling unit stands for.
+/// What a call hands to a parameter: a value, or what a parameter of the calling unit holds.
 #[derive(Clone, PartialEq, Eq, Debug, Drop)]
 pub enum Atom {
     Value(Value),

@@ -33,7 +33,7 @@ returns-then-go_on-clause-found g t c =
     let pushed : c.push.new.self.items ≡ c.args.numbers.now.items ++ c.in-Some.x ∷ [] = cc (c.push.ensures.items) in
     let here : Passed (g.C.Choice.size c.args.choice.now) (g.C.Choice.Good c.args.choice.now) (option_copied c.args.bound) c.args.numbers.now.items c.in-Some.x =
     Passed-skip _ _ _ _ c.search.from _ (rw same at c.search.invariant.passed) (rw (c.as_slice-in-search.ensures.value, same) at c.in-Some.ensures.passed) in
-    best-first _ _ _ _ _ _ _ here c.behind.ensures (rw pushed at c.if-go_on.ensures.found) (λ e. c.if-len-size.false (cc))
+    best-first _ _ _ _ _ _ _ here c.bound_after.ensures (rw pushed at c.if-go_on.ensures.found) (λ e. c.if-len-size.false (cc))
 
 pub search-preserved : goal.search-preserved
 search-preserved g t c =
@@ -48,7 +48,7 @@ search-preserved g t c =
       same = back;
       above = omega arith;
       within = omega arith;
-      passed = rw (back, next) (Passed-next _ _ _ _ _ _ here c.behind.ensures (rw pushed at c.if-go_on.ensures.none));
+      passed = rw (back, next) (Passed-next _ _ _ _ _ _ here c.bound_after.ensures (rw pushed at c.if-go_on.ensures.none));
     }
 
 pub returns-clause-none : goal.returns-clause-none

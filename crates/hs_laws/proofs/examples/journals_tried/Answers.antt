@@ -21,7 +21,7 @@ use Rattle.hs_types.specs.declared.rule_set.RuleSet.{RuleSet}
 use Rattle.hs_types.specs.Journal.{Asks, IsLawfulEntry, IsNumbered, after_entry, meta_of, rank, tries_in}
 use Rattle.hs_expr.proofs.Evaluations.{values}
 use Rattle.hs_laws.specs.Bank.{add, adds, args_of, at_match, balance, client_with_new_account, client_with_one, just_client, model, number, object_arg, open_account, open_args, opens, opens_missed, opens_misnamed, opens_and_drops, set_balance, tried}
-use Rattle.hs_laws.proofs.examples.journals_told.Goals as goal
+use Rattle.hs_laws.proofs.examples.journals_tried.Goals as goal
 
 opened : (set : RuleSet) → meta_of set ≡ model → set.rules ≡ open_account ∷ add ∷ [] → after_entry set just_client opens ≡ client_with_new_account
 opened set m r = simp (m, r) refl
@@ -83,12 +83,12 @@ adds_lawful set m r cause.New = rw r (refl, (lit≤ tt, lit≤ tt))
 adds_lawful set m r cause.Old = rw r (simp values (refl, refl))
 
 pub returns-clause-lawful : goal.returns-clause-lawful
-returns-clause-lawful c set m r zero = record { numbered = record { at_its_place = refl; within_sessions = lit< tt; not_behind = search rules; tries_numbered = refl }; tries = (opens_lawful set m r, tt) }
-returns-clause-lawful c set m r (suc zero) = subst (λ (g : Graph). IsLawfulEntry set (opens ∷ []) g 1 adds) (sym (opened set m r)) (record { numbered = record { at_its_place = refl; within_sessions = lit< tt; not_behind = search rules; tries_numbered = refl }; tries = (adds_lawful set m r, tt) })
+returns-clause-lawful c set m r zero = record { numbered = record { at_its_place = refl; within_sessions = lit< tt; requests_rise = search rules; tries_numbered = refl }; tries = (opens_lawful set m r, tt) }
+returns-clause-lawful c set m r (suc zero) = subst (λ (g : Graph). IsLawfulEntry set (opens ∷ []) g 1 adds) (sym (opened set m r)) (record { numbered = record { at_its_place = refl; within_sessions = lit< tt; requests_rise = search rules; tries_numbered = refl }; tries = (adds_lawful set m r, tt) })
 returns-clause-lawful c set m r (suc (suc n)) = tt
 
 numbered : (entry : Entry) → entry.session ≡ 0 → map (λ tried. tried.attempt) (tries_in entry.what) ≡ range_with_len 0 (length (tries_in entry.what)) → IsNumbered [] 0 entry
-numbered entry s t = record { at_its_place = refl; within_sessions = rw s (lit< tt); not_behind = All-nil (λ earlier. earlier.session ≡ entry.session → earlier.request ≤ entry.request); tries_numbered = t }
+numbered entry s t = record { at_its_place = refl; within_sessions = rw s (lit< tt); requests_rise = All-nil (λ earlier. earlier.session ≡ entry.session → earlier.request ≤ entry.request); tries_numbered = t }
 
 args_fit : (set : RuleSet) → set.rules ≡ open_account ∷ add ∷ [] → (tried : Tried) → tried.rule ≡ 0 → tried.args ≡ open_args → Asks set just_client tried cause.Rule
 args_fit set r tried e a = rw (r, e, a) (search rules)

@@ -9,7 +9,7 @@ use Rattle.hs_session.specs.SerialReport.{NotAfter}
 use Rattle.hs_expr.specs.Lists.{EachPair}
 use Rattle.std.proofs.lemmas.List.Elements.{All-head}
 use Rattle.hs_tests_engine.specs.Requests.{first_asked, opening}
-use Rattle.hs_tests_engine.proofs.reports.reports_told.Goals as goal
+use Rattle.hs_tests_engine.proofs.reports.reports_tried.Goals as goal
 
 pub returns-clause-answered : goal.returns-clause-answered
 returns-clause-answered c = λ set e. record {
