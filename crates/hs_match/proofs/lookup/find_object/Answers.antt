@@ -12,7 +12,7 @@ pub returns-else-object-number : goal.returns-else-object-number
 returns-else-object-number c =
     let at : slice_get c.args.graph.now.objects c.first_from-place.result ≡ Some c.in-Some.object.now = search rules in
     let from = c.first_from-place.ensures in
-    sym (place_other (λ (object : Object). object.number) c.args.graph.now.objects c.args.number c.first_from-place.result c.in-Some.object.now c.requires (search (rules, from.before)) (search (rules, from.behind)) at c.if-object-number.false)
+    sym (place_other (λ (object : Object). object.number) c.args.graph.now.objects c.args.number c.first_from-place.result c.in-Some.object.now c.requires (search (rules, from.before)) (search (rules, from.from)) at c.if-object-number.false)
 
 pub returns-in-None : goal.returns-in-None
 returns-in-None c =
