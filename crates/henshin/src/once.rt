@@ -1,3 +1,5 @@
+//! The program over any source and sink.
+
 ghost use Rattle.std.specs.Prelude.{◌≡◌, ◌≢◌, ◌↔◌, ◌<◌, ◌≤◌, [], Some, None, true, length, map, string_bytes, IfSome, IsSome};
 ghost use Rattle.hs_base.specs.Faults.{one_more};
 ghost use Rattle.hs_input.specs.Refusing.{Refuses};

@@ -1,3 +1,5 @@
+//! Reading a source to its end.
+
 ghost use Rattle.std.specs.Prelude.{◌≡◌, ◌<◌, ◌≤◌, ◌≢◌, List, [], Err, Some, true, length, IfOk, IfSome, OnOk, IsErrOf};
 ghost use Rattle.hs_base.specs.Faults.{one_more};
 

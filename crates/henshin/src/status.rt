@@ -1,3 +1,5 @@
+//! The ways in which a run can end, with their exit statuses and lines.
+
 ghost use Rattle.std.specs.Prelude.{◌≡◌, IfOk, map, option_map};
 ghost use Rattle.henshin.specs.Statuses as spec;
 

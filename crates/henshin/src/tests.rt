@@ -1,3 +1,5 @@
+//! Runs of the program over sources and sinks in memory.
+
 ghost use Rattle.std.specs.Prelude.{◌≤◌};
 
 use crate::once::once;

@@ -1,3 +1,5 @@
+//! Writing a text to a sink.
+
 ghost use Rattle.std.specs.Prelude.{◌≡◌, ℕ, ◌++◌, List, true, OnOk, OnErr};
 ghost use Rattle.std.specs.Io.KnownBytes.{Appends};
 ghost use Rattle.hs_base.specs.Faults.{one_more};

@@ -1,3 +1,5 @@
+//! The graph after a plan.
+
 ghost use Rattle.std.specs.Prelude.{◌≡◌, ◌+◌, ◌^◌, ◌≤◌, ◌<◌, ◌++◌, [], IfOk, OnOk, drop, length, map};
 ghost use Rattle.std.specs.List.{All};
 ghost use Rattle.hs_types.specs.declared.meta.Metamodel.{Metamodel};

@@ -1,3 +1,5 @@
+//! What a rule that only adds does at a match.
+
 ghost use Rattle.std.specs.Prelude.{◌≡◌, ◌≤◌, ℕ, [], IfOk, length, map, take, option_copied};
 ghost use Rattle.hs_types.specs.declared.graph.Graph.{Graph};
 ghost use Rattle.hs_types.specs.Metamodel.{default_of, features_of};

@@ -1,3 +1,4 @@
+-- Counts of faults.
 use Rattle.std.specs.Prelude.{ℕ, ◌+◌, ◌-◌, ◌^◌, min, Result, Ok, Err}
 
 -- One more, up to the greatest number of 64 bits, at which a count stays.

@@ -1,3 +1,4 @@
+-- Sources and sinks in memory.
 use Rattle.std.specs.Prelude.{ℕ, ◌+◌, ◌-◌, ◌^◌, Bool, List, ◌==◌, false, min, if◌then◌else◌}
 use Rattle.std.specs.List.{list_any}
 use Rattle.hs_base.specs.declared.calls.Calls.{Calls}

@@ -1,3 +1,5 @@
+//! Calls that are counted, some of which fail.
+
 ghost use Rattle.std.specs.Prelude.{◌≡◌, ◌+◌};
 ghost use Rattle.hs_base.specs.Memory.{no_calls, is_due, calls_after};
 

@@ -1,3 +1,5 @@
+//! Sources and sinks over the standard library.
+
 ghost use Rattle.std.specs.Prelude.{◌≡◌, true, false};
 
 use crate::{Failed, Sink, Source};

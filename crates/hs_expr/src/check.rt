@@ -1,3 +1,5 @@
+//! Checks over a list, up to the first fault.
+
 ghost use Rattle.std.specs.Prelude.{◌≡◌, ℕ, List, Some, slice_get};
 ghost use Rattle.hs_expr.specs.Verdict.{verdict, each, fault_if};
 

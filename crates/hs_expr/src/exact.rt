@@ -1,3 +1,5 @@
+//! Types whose clones and comparisons are exact.
+
 ghost use Rattle.std.specs.Prelude.{◌≡◌, ◌↔◌, IsTrue, true};
 ghost use Rattle.std.proofs.Common.{rules};
 

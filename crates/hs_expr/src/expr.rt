@@ -1,3 +1,5 @@
+//! Expressions by numbers.
+
 use crate::Value;
 use sqlite_items::Boxed;
 

@@ -1,3 +1,5 @@
+//! Answers with a fault, or out of memory.
+
 ghost use Rattle.std.specs.Prelude.{◌≡◌, IfOk, Result};
 ghost use Rattle.std.specs.Result.{result_ok};
 ghost use Rattle.hs_expr.specs.declared.failure.Failure.TheVariants.{NoMemory};

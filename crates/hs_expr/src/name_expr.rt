@@ -1,3 +1,5 @@
+//! Expressions by names, in postfix order.
+
 ghost use Rattle.std.specs.Prelude.{◌≡◌, true, is_some};
 ghost use Rattle.hs_expr.specs.Trees.{tree_of};
 

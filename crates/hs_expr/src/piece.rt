@@ -1,3 +1,5 @@
+//! The pieces of expressions by names, with their spans.
+
 use crate::{Sign, Text};
 
 /// Where something is in a text: from the character numbered `start` up to the one before `end`,

@@ -1,3 +1,5 @@
+//! Stacks that contracts see as lists, the top first.
+
 ghost use Rattle.std.specs.Prelude.{◌≡◌, ◌∷◌, [], List, OnOk, OnErr, MatchOption, reverse};
 
 use crate::List;

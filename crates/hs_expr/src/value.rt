@@ -1,3 +1,5 @@
+//! Values and their kinds.
+
 ghost use Rattle.std.proofs.Common.{rules};
 
 use crate::{Exact, Plain, Text};

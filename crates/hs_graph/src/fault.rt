@@ -1,3 +1,5 @@
+//! Faults of written objects, with their places and words.
+
 ghost use Rattle.std.specs.Prelude.{◌≡◌};
 ghost use Rattle.hs_graph.specs.Words.{graph_word};
 

@@ -1,3 +1,5 @@
+//! Problems of typed graphs.
+
 use hs_types::{FeatureNo, ObjectNo};
 
 /// What a graph may have that its metamodel would rather not.

@@ -1,3 +1,5 @@
+//! Reading a bundle with its rules and requests.
+
 ghost use Rattle.std.specs.Prelude.{◌≡◌, ℕ, List, IfErr, IfOk, IfSome, Ok, Some, None};
 ghost use Rattle.std.specs.Arc.{arc_value};
 ghost use Rattle.std.specs.Str.{chars};

@@ -1,3 +1,5 @@
+//! Why bytes are refused.
+
 use hs_faults::RuleFault;
 use hs_json::BundleFault;
 use hs_text::FaultKind;

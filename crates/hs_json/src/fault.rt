@@ -1,3 +1,5 @@
+//! Faults of bundles, and the lines that report them.
+
 ghost use Rattle.std.specs.Prelude.{◌≡◌, ◌++◌, IfOk};
 ghost use Rattle.hs_json.specs.Lines.{bundle_fault_line};
 

@@ -1,3 +1,5 @@
+//! Reading bundles.
+
 ghost use Rattle.std.specs.Prelude.{◌≡◌, [], codes, Ok, IfErr, IfOk, option_map};
 ghost use Rattle.std.specs.Arc.{arc_value};
 ghost use Rattle.serde_json.specs.Errors.{IsMemory};

@@ -1,3 +1,5 @@
+//! Objects, lists and scalars that a JSON value should be.
+
 ghost use Rattle.std.specs.Prelude.{◌≡◌, ◌∷◌, [], IfOk, not, map, find, option_map, option_copied, string_bytes};
 ghost use Rattle.std.specs.BTreeMap.{keys as map_keys};
 ghost use Rattle.std.specs.List.{list_any};

@@ -1,3 +1,5 @@
+//! Faults of a part of a bundle: its form, or its meaning.
+
 use hs_json_form::Path;
 
 /// What is wrong at a path of a part of a bundle, where K says what can be wrong with its meaning.

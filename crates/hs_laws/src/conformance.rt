@@ -1,3 +1,5 @@
+//! Conformance is an order, and features are inherited.
+
 ghost use Rattle.std.specs.Prelude.{◌≡◌, ℕ, true};
 ghost use Rattle.hs_types.specs.declared.meta.Metamodel.{Metamodel};
 ghost use Rattle.hs_expr.specs.Lists.{has};

@@ -1,3 +1,5 @@
+//! The value of expressions, and when they have none.
+
 ghost use Rattle.std.specs.Prelude.{◌≡◌, ℕ, Some, None};
 ghost use Rattle.std.specs.Option.{option_and_then};
 ghost use Rattle.hs_expr.specs.declared.expr.Expr.{Expr};

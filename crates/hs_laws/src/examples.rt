@@ -1,3 +1,5 @@
+//! The definitions, tried on a small bank.
+
 ghost use Rattle.std.specs.Prelude.{◌≡◌, ◌≢◌, ◌-◌, ◌^◌, ◌<◌, ℕ, pos, negsuc, Some, None, [], ◌∷◌, true, false, codes};
 ghost use Rattle.hs_expr.specs.declared.expr.Expr.TheVariants as expr;
 ghost use Rattle.hs_expr.specs.declared.expr.Sign.TheVariants as sign;

@@ -1,3 +1,5 @@
+//! Journals that stay lawful.
+
 ghost use Rattle.std.specs.Prelude.{◌≡◌, ◌++◌, ◌∷◌, ℕ, List, [], length, take};
 ghost use Rattle.hs_types.specs.declared.entry.Cause.{Cause};
 ghost use Rattle.hs_types.specs.declared.entry.Entry.{Entry};

@@ -1,3 +1,5 @@
+//! Matches that a plan spares.
+
 ghost use Rattle.std.specs.Prelude.{◌≡◌, List};
 ghost use Rattle.hs_types.specs.declared.graph.Graph.{Graph};
 ghost use Rattle.hs_types.specs.declared.matching.Extension.{Extension};

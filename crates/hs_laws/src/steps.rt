@@ -1,3 +1,5 @@
+//! What a step of a valid match leaves true.
+
 ghost use Rattle.std.specs.Prelude.{◌≡◌, ◌≤◌, ◌<◌, ◌+◌, ℕ, List, length, true, false, Some, None};
 ghost use Rattle.std.specs.List.{All, list_any};
 ghost use Rattle.hs_types.specs.declared.graph.Edge.{Edge};

@@ -1,3 +1,4 @@
+-- Numbers that an image may have, and the least of them.
 use Rattle.std.specs.Prelude.{ℕ, ◌<◌, ◌≤◌, ◌≡◌, List, false, Option, Some, slice_get, MatchOption}
 use Rattle.hs_types.specs.declared.graph.Edge.{Edge}
 use Rattle.hs_types.specs.declared.graph.Graph.{Graph}

@@ -1,3 +1,4 @@
+-- That numbers differ is a proposition: it has one proof at most.
 use Rattle.std.specs.Prelude.{ℕ, List, [], ◌∷◌}
 use Rattle.std.specs.Coded.{×_prop, Unit-prop}
 use Rattle.hs_expr.specs.Lists.{Differ}

@@ -1,3 +1,4 @@
+-- The search for a rule's kernel.
 use Rattle.std.specs.Prelude.{[]}
 use Rattle.hs_types.specs.declared.graph.Graph.{Graph}
 use Rattle.hs_types.specs.declared.meta.Metamodel.{Metamodel}

@@ -1,3 +1,4 @@
+-- Candidates along an edge.
 use Rattle.std.specs.Prelude.{ℕ, ◌<◌, ◌≤◌, ◌≡◌, eqb, ◌&&◌, if◌then◌else◌, Option, Some, None, slice_get}
 use Rattle.hs_types.specs.declared.graph.Edge.{Edge}
 use Rattle.hs_types.specs.declared.graph.Graph.{Graph}

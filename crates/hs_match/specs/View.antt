@@ -1,3 +1,4 @@
+-- What contracts see of a search.
 use Rattle.hs_match.specs.declared.extending.Extending.{Extending as Search}
 use Rattle.hs_match.specs.Extending.{Sought}
 

@@ -1,3 +1,5 @@
+//! The numbers that an image may have.
+
 ghost use Rattle.std.specs.Prelude.{◌≡◌, ◌≤◌, ◌<◌, ◌↔◌, ◌++◌, ℕ, IsTrue, Some, false, slice_get, IsSomeAnd};
 ghost use Rattle.hs_expr.specs.Lists.{has};
 ghost use Rattle.hs_types.specs.TypedGraph.{object_at};

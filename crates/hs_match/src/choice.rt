@@ -1,3 +1,5 @@
+//! The images of a pattern, as a choice to search for.
+
 ghost use Rattle.std.specs.Prelude.{◌≡◌, ◌≤◌, ◌<◌, ◌+◌, ◌-◌, ◌++◌, length, take, drop, slice_get, IsSomeAnd, IfSome, IfNone, ℕ, List, ◌∷◌};
 ghost use Rattle.hs_expr.specs.Lists.{Differ};
 ghost use Rattle.hs_types.specs.Pattern.{left_nodes, left_edges};

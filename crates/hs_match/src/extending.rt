@@ -1,3 +1,5 @@
+//! What a search for images goes by.
+
 ghost use Rattle.std.specs.Prelude.{◌≡◌, ◌≤◌, ◌+◌, length};
 ghost use Rattle.hs_expr.specs.Lists.{Differ};
 ghost use Rattle.hs_types.specs.Pattern.{left_nodes, left_edges};

@@ -1,3 +1,5 @@
+//! What a search asks of a graph.
+
 ghost use Rattle.std.specs.Prelude.{◌≡◌, ◌↔◌, IsTrue, map};
 ghost use Rattle.hs_expr.specs.Lists.{Rise};
 ghost use Rattle.hs_match.specs.FirstMatch.{InOrder, IsSmall};

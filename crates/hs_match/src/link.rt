@@ -1,3 +1,5 @@
+//! Candidates along an edge to an image that is there.
+
 ghost use Rattle.std.specs.Prelude.{◌≡◌, ◌++◌, ◌⊎◌, ◌↔◌, IsTrue};
 ghost use Rattle.hs_match.specs.Candidates.{Ascend, IsFree, IsNextFrom};
 ghost use Rattle.hs_match.specs.Linked.{IsSmaller, IsLinked, Keeps, Takes, far_end};

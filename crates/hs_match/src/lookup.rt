@@ -1,3 +1,5 @@
+//! Objects and edges by number, by binary search.
+
 ghost use Rattle.std.specs.Prelude.{◌≡◌, ◌≤◌, ◌<◌, ◌↔◌, ◌++◌, ℕ, IsTrue, Some, slice_get, option_copied};
 ghost use Rattle.hs_types.specs.TypedGraph.{object_at};
 ghost use Rattle.hs_match.specs.Candidates.{Ascend, IsFree, IsNextFrom};

@@ -1,3 +1,5 @@
+//! The least valid match of a rule that only adds.
+
 ghost use Rattle.std.specs.Prelude.{◌≡◌, ◌≤◌, ◌+◌, [], take, drop, length, Option, IfOk, IfSome, IfNone};
 ghost use Rattle.std.specs.Option.{is_some};
 ghost use Rattle.hs_types.specs.declared.matching.Match.{Match};

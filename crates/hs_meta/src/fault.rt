@@ -1,3 +1,5 @@
+//! Faults of written classes, with their places and words.
+
 ghost use Rattle.std.specs.Prelude.{◌≡◌};
 ghost use Rattle.hs_meta.specs.Words.{model_word};
 

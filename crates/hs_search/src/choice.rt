@@ -1,3 +1,5 @@
+//! What is searched.
+
 ghost use Rattle.std.specs.Prelude.{◌≡◌, ℕ, List, ◌<◌, ◌≤◌, ◌++◌, [], ◌∷◌, ◌↔◌, IsTrue, length, IfSome, IfNone};
 ghost use Rattle.hs_search.specs.Choice.{EachFits, IsDeadEnd};
 

@@ -1,3 +1,5 @@
+//! The serial report is one.
+
 ghost use Rattle.std.specs.Prelude.{◌≡◌, ◌∷◌, [], IsSome, IsSomeAnd, Some, slice_get};
 ghost use Rattle.std.specs.Arc.{arc_value};
 ghost use Rattle.hs_types.specs.Journal.{meta_of};

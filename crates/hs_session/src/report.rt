@@ -1,3 +1,5 @@
+//! Reports: the journal, the replies and the graph.
+
 use hs_expr::{List, Text};
 use hs_types::{Entry, ListGraph};
 

@@ -1,3 +1,4 @@
+-- Choices of different numbers, on which the search is tried.
 use Rattle.std.specs.Prelude.{ℕ, ◌<◌, ◌≡◌, ◌-◌, List, [], Option, Contains, length, slice_get}
 use Rattle.hs_search.specs.Choice.{EachFits}
 

@@ -1,3 +1,5 @@
+//! Terms, symbols and parts of the grammar.
+
 use hs_tokens::Kind;
 
 /// The tokens that may be at a place of the grammar.

@@ -1,3 +1,5 @@
+//! The syntax of a text, with its spans.
+
 ghost use Rattle.hs_text.specs.WellFormed.{AreWellFormed, AreWellFormed-prop};
 
 use hs_expr::{List, Name, NameExpr, Span, Text};

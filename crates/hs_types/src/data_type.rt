@@ -1,3 +1,5 @@
+//! Data types of attributes.
+
 ghost use Rattle.std.specs.Prelude.{◌≡◌};
 ghost use Rattle.hs_types.specs.Metamodel.{is_of_type};
 

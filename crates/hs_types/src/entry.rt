@@ -1,3 +1,5 @@
+//! Entries of a journal.
+
 ghost use Rattle.std.specs.Prelude.{◌<◌, ◌^◌};
 
 use crate::{Args, ClassNo, EdgeNo, Slot};

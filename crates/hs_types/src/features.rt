@@ -1,3 +1,5 @@
+//! Look-ups of features in a metamodel.
+
 ghost use Rattle.std.specs.Prelude.{◌≡◌, option_copied};
 ghost use Rattle.hs_types.specs.Metamodel as spec;
 

@@ -1,3 +1,5 @@
+//! Typed graphs.
+
 ghost use Rattle.std.proofs.Common.{rules};
 
 use crate::{ClassNo, FeatureNo, Meta};

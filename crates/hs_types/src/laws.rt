@@ -1,3 +1,5 @@
+//! What the types carry.
+
 ghost use Rattle.hs_types.specs.declared.rule_set.RuleSet.{RuleSet};
 ghost use Rattle.hs_types.specs.Journal.{meta_of};
 ghost use Rattle.hs_types.specs.Limits.{IsSmallMeta};

@@ -1,3 +1,5 @@
+//! Look-ups in a graph.
+
 ghost use Rattle.std.specs.Prelude.{◌≡◌, option_copied};
 ghost use Rattle.std.specs.Option.{option_map};
 ghost use Rattle.hs_types.specs.TypedGraph as spec;

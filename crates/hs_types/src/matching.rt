@@ -1,3 +1,5 @@
+//! Matches and arguments.
+
 ghost use Rattle.std.proofs.Common.{rules};
 
 use crate::{EdgeNo, ObjectNo};

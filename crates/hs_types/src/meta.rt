@@ -1,3 +1,5 @@
+//! Metamodels.
+
 use hs_expr::{List, Text, Value};
 
 /// The place of a class in its metamodel.

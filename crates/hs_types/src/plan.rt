@@ -1,3 +1,5 @@
+//! Plans: what a rule application does.
+
 use crate::{ClassNo, EdgeNo, FeatureNo, ObjectNo, Slot, SlotKind};
 use hs_expr::{List, Value};
 

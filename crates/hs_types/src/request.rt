@@ -1,3 +1,5 @@
+//! Requests.
+
 ghost use Rattle.std.specs.Prelude.{◌≤◌};
 ghost use Rattle.std.proofs.Common.{rules};
 

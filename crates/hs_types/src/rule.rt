@@ -1,3 +1,5 @@
+//! Rules.
+
 ghost use Rattle.std.proofs.Common.{rules};
 
 use crate::{ClassNo, FeatureNo};

@@ -1,3 +1,5 @@
+//! Rules and units over a metamodel.
+
 ghost use Rattle.std.specs.Arc.{arc_value};
 ghost use Rattle.hs_types.specs.Limits.{IsSmallMeta};
 ghost use Rattle.hs_types.specs.Metamodel.{IsMeta};

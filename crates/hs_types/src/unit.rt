@@ -1,3 +1,5 @@
+//! Units.
+
 use crate::Param;
 use hs_expr::{List, Text, Value};
 
