@@ -1,10 +1,10 @@
 //! The plain data that everything else speaks of: metamodels, typed graphs, rules, units, matches,
 //! plans, requests and journal entries.
 //!
-//! Every type here is a struct or enum with public fields, so contracts and definitions see records
-//! of lists, numbers and texts. Things are named by numbers: an object or an edge of a graph by the
-//! number that it was given when it came ([`ObjectNo`], [`EdgeNo`]), everything else by its place
-//! in the list that holds it.
+//! The types are structs and enums with public fields, so contracts and definitions see records of
+//! lists, numbers and texts; `Meta` keeps its table of conformance to itself. Things are named by
+//! numbers: an object or an edge of a graph by the number that it was given when it was made
+//! ([`ObjectNo`], [`EdgeNo`]), everything else by its index in the list that holds it.
 #![tactic(auto)]
 
 mod additions;
