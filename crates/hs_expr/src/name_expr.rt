@@ -29,7 +29,7 @@ impl NameExpr {
     }
 }
 
-// Whether the pieces are one expression.
+/// Whether the pieces are one expression.
 fn is_one(pieces: &[Piece]) -> bool
     ensures { result ≡ is_some (tree_of pieces.now) }
 {

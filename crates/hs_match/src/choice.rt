@@ -83,7 +83,7 @@ impl Choice for Extending<'_> {
 }
 
 impl Extending<'_> {
-    // A number from here on that the next node's image may be.
+    /// A number from here on that the next node's image may be.
     fn next_node_image(&self, class: ClassNo, front: &[u32], from: u64) -> Option<ObjectNo>
         requires { length front.now < self.now.node_count }
         ensures fits { IfSome result (λ x. IsFree self.now.meta.now self.now.graph.now class
@@ -101,7 +101,7 @@ impl Extending<'_> {
         }
     }
 
-    // A number from here on that the next edge's image may be.
+    /// A number from here on that the next edge's image may be.
     fn next_edge_image(&self, front: &[u32], from: u64) -> Option<EdgeNo>
         requires nodes_done { self.now.node_count ≤ length front.now }
         requires left { length front.now < self.now.node_count + self.now.edge_count }
@@ -129,7 +129,7 @@ impl Extending<'_> {
 }
 
 impl Extending<'_> {
-    // An edge that the next object must have.
+    /// An edge that the next object must have.
     fn link(&self, front: &[ObjectNo]) -> Option<Link>
         requires { length front.now < self.now.node_count }
         ensures { IfSome result
@@ -147,7 +147,7 @@ impl Extending<'_> {
         None
     }
 
-    // What an image of the edge says of the next object, where its other end is among these.
+    /// What an image of the edge says of the next object, where its other end is among these.
     fn link_of(&self, edge: &PatternEdge, front: &[ObjectNo]) -> Option<Link>
         ensures { IfSome result (λ link. (y : ℕ) (rest : List ℕ) (n : ℕ)
             → IsImage self.now.graph.now (image (self.now.base_nodes.now ++ self.now.nodes.now)

@@ -47,7 +47,7 @@ pub fn exists<C: Choice>(choice: &C) -> bool
     least(choice).is_some()
 }
 
-// Extends the numbers to the least choice whose rest comes after the bound, or leaves them.
+/// Extends the numbers to the least choice whose rest comes after the bound, or leaves them.
 fn go_on<C: Choice>(choice: &C, bound: Option<&[u32]>, numbers: &mut Numbers) -> bool
     requires room { C.size choice.now ≤ 28 }
     requires within { array_vec_len numbers.old ≤ C.size choice.now }
@@ -74,7 +74,7 @@ fn go_on<C: Choice>(choice: &C, bound: Option<&[u32]>, numbers: &mut Numbers) ->
     false
 }
 
-// The least number that a list above the bound can begin with.
+/// The least number that a list above the bound can begin with.
 fn first_of(bound: Option<&[u32]>) -> u32
     ensures { result ≡ floor (option_copied bound.entry) }
 {
@@ -84,7 +84,7 @@ fn first_of(bound: Option<&[u32]>) -> u32
     }
 }
 
-// What bounds the numbers after x.
+/// What bounds the numbers after x.
 fn bound_after(bound: Option<&[u32]>, x: u32) -> Option<&[u32]>
     requires { floor (option_copied bound) ≤ x }
     ensures { (rest : List ℕ)

@@ -4,7 +4,7 @@ use hs_text::{parse, print};
 use std::alloc::{AllocError, Global};
 use std::test::Fail;
 
-// The canonical text of a text, or what it isn't.
+/// The canonical text of a text, or what it isn't.
 fn canonical(alloc: Global, text: &str) -> Result<String, AllocError> {
     match parse(alloc, text) {
         Ok(syntax) => Ok(print(alloc, &syntax)?.into_string()),
@@ -12,12 +12,12 @@ fn canonical(alloc: Global, text: &str) -> Result<String, AllocError> {
     }
 }
 
-// A canonical text is its own canonical text.
+/// A canonical text is its own canonical text.
 fn stays(alloc: Global, text: &str) -> Result<bool, AllocError> {
     Ok(canonical(alloc, text)?.as_str() == text)
 }
 
-// Whether the text has this canonical text, and that one stays.
+/// Whether the text has this canonical text, and that one stays.
 fn becomes(alloc: Global, text: &str, wanted: &str) -> Result<bool, AllocError> {
     Ok(canonical(alloc, text)?.as_str() == wanted && stays(alloc, wanted)?)
 }
@@ -311,7 +311,7 @@ unit both(in a: Account) conditional {
     Ok(())
 }
 
-// The length of the canonical text of a condition with a million operators.
+/// The length of the canonical text of a condition with a million operators.
 fn printed_len(alloc: Global, operator: &str, end: &str) -> Result<usize, AllocError> {
     let mut text = String::from_str(alloc, "rule r() { where ")?;
     for _ in 0..1_000_000 {

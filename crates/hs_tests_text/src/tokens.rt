@@ -22,7 +22,7 @@ fn span(start: usize, end: usize, line: usize, column: usize) -> Span {
     }
 }
 
-// Whether these are the tokens of the text, by kind and position.
+/// Whether these are the tokens of the text, by kind and position.
 fn has_tokens(scanned: &Scanned, wanted: &[(Kind, Span)]) -> bool {
     scanned.tokens.len() == wanted.len()
         && scanned.tokens.iter().zip(wanted.iter()).all(|(token, (kind, span))| token.kind.is(*kind)

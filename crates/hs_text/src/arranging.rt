@@ -29,7 +29,7 @@ fn slot(alloc: Global, node: &Name, attribute: &Name) -> Result<Text, AllocError
     Ok(Text::from_string(text))
 }
 
-// The text of a piece by itself.
+/// The text of a piece by itself.
 fn piece_text(alloc: Global, piece: &Piece) -> Result<Text, AllocError>
     ensures { IfOk result (λ text. text ≡ spec.piece_text piece.now) }
 {
@@ -48,8 +48,8 @@ fn piece_text(alloc: Global, piece: &Piece) -> Result<Text, AllocError>
     }
 }
 
-// Takes the next expression that is to be written, and whether it needs parentheses; the texts
-// after it are written then.
+/// Takes the next expression that is to be written, and whether it needs parentheses; the texts
+/// after it are written then.
 fn next(tasks: &mut Stack<Task>, texts: &mut Stack<Text>) -> Result<Option<bool>, AllocError>
     ensures next { IfOk result (λ r. r ≡ next_expr tasks.old) }
     ensures below { OnOk result (tasks.new ≡ below_expr tasks.old) }
@@ -82,7 +82,7 @@ fn close(alloc: Global, parens: bool, texts: &mut Stack<Text>) -> Result<(), All
     Ok(())
 }
 
-// The operands of an operator are to be written, and the operator before the last one.
+/// The operands of an operator are to be written, and the operator before the last one.
 fn put_tasks(
     alloc: Global,
     piece: &Piece,
@@ -121,7 +121,7 @@ fn put_text(
     }
 }
 
-// The texts with which an expression is written, the first one on top.
+/// The texts with which an expression is written, the first one on top.
 fn texts_of(alloc: Global, expr: &NameExpr) -> Result<Stack<Text>, AllocError>
     ensures { IfOk result (λ texts. concat texts ≡ expr_text expr.now) }
 {
@@ -139,7 +139,7 @@ fn texts_of(alloc: Global, expr: &NameExpr) -> Result<Stack<Text>, AllocError>
     Ok(texts)
 }
 
-// Writes the texts, the top first.
+/// Writes the texts, the top first.
 fn write_texts(out: &mut String, texts: &mut Stack<Text>) -> Result<(), AllocError>
     ensures { OnOk result (string_bytes out.new ≡ string_bytes out.old ++ concat texts.old) }
 {

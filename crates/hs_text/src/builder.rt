@@ -55,7 +55,7 @@ impl Builder {
         Ok(())
     }
 
-    // Takes the last token that is held.
+    /// Takes the last token that is held.
     fn last(&mut self) -> Token
         ensures token { result ≡ last_token self.old }
         ensures rest { self.new ≡ record self.old { held = below_one self.old } }
@@ -163,7 +163,7 @@ impl Builder {
         }
     }
 
-    // The expression that the pieces are, if they are one.
+    /// The expression that the pieces are, if they are one.
     fn expr(&mut self, alloc: Global) -> Option<NameExpr>
         ensures expr { result ≡ name_expr self.old.pieces }
         ensures rest { self.new ≡ record self.old { pieces = [] } }
@@ -263,7 +263,7 @@ impl Builder {
         self.pieces.push(Piece::Slot { node, attribute })
     }
 
-    // Ends a unit, whose name is held.
+    /// Ends a unit, whose name is held.
     fn finish(&mut self, alloc: Global, source: &[char], body: Body) -> Result<(), AllocError>
         ensures { OnOk result (self.new ≡ with_unit source.now self.old body) }
     {
@@ -356,7 +356,7 @@ impl Builder {
         })
     }
 
-    // Gives a value to the parameter whose name is held.
+    /// Gives a value to the parameter whose name is held.
     fn give(&mut self, alloc: Global, source: &[char], value: Atom) -> Result<(), AllocError>
         ensures { OnOk result (self.new
             ≡ with_value source.now self.old (last_token self.old) (below_one self.old) value) }

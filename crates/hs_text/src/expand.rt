@@ -9,7 +9,7 @@ use hs_expr::Stack;
 use hs_tokens::Kind;
 use std::alloc::AllocError;
 
-// The right sides of the productions.
+/// The right sides of the productions.
 fn right_side(production: Production) -> &'static [Symbol]
     ensures symbols { result.now ≡ spec.right_side production }
     ensures few { length result.now ≤ 16 }

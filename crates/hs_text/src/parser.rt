@@ -21,7 +21,7 @@ use hs_tokens::{FaultKind, Kind, Scanned, TextFault, Token};
 use std::alloc::{AllocError, Global};
 use std::mem;
 
-// Whether a token of this kind may be where the grammar has this term.
+/// Whether a token of this kind may be where the grammar has this term.
 fn may_stand(term: Term, kind: Kind) -> bool
     ensures { result ≡ matches term kind }
 {
@@ -133,7 +133,7 @@ fn is_atom(kind: Kind) -> bool
     )
 }
 
-// Takes the token, if a text of the symbols on the stack begins with it.
+/// Takes the token, if a text of the symbols on the stack begins with it.
 fn take(
     alloc: Global,
     source: &[char],
@@ -164,7 +164,7 @@ fn take(
     Ok(false)
 }
 
-// Keeps the token, if it may be there.
+/// Keeps the token, if it may be there.
 fn keep(builder: &mut Builder, term: Term, token: Token) -> Result<bool, AllocError>
     ensures may { IfOk result (λ b. b ≡ matches term token.kind) }
     ensures held { IfOk result (λ b. OnTrue b (builder.new ≡ with_token token builder.old)) }
@@ -176,7 +176,7 @@ fn keep(builder: &mut Builder, term: Term, token: Token) -> Result<bool, AllocEr
     Ok(true)
 }
 
-// Whether the text may end here; what is left on the stack is done.
+/// Whether the text may end here; what is left on the stack is done.
 fn finish(
     alloc: Global,
     source: &[char],
@@ -224,7 +224,7 @@ pub fn read(
     Ok(mem::replace(&mut builder.definitions, List::new(alloc)))
 }
 
-// The fault at a token with which no text goes on.
+/// The fault at a token with which no text goes on.
 fn token_fault(token: Token) -> TextFault
     ensures { result ≡ record {
       line = token.span.line;

@@ -60,7 +60,7 @@ fn write_element_lines(out: &mut String, elements: &[Element]) -> Result<(), All
     Ok(())
 }
 
-// Writes a block of a rule that has elements.
+/// Writes a block of a rule that has elements.
 fn write_element_block(
     out: &mut String,
     opening: &str,
@@ -196,7 +196,7 @@ fn write_definition(
     }
 }
 
-// Writes the definitions after the first, each after an empty line.
+/// Writes the definitions after the first, each after an empty line.
 fn write_more_definitions(
     alloc: Global,
     out: &mut String,

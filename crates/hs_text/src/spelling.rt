@@ -61,7 +61,7 @@ pub fn characters(alloc: Global, text: &str) -> Result<Vec<char>, AllocError>
     text.chars().collect(alloc)
 }
 
-// Writes a character of a text in quotes.
+/// Writes a character of a text in quotes.
 fn write_escaped(out: &mut String, c: char) -> Result<(), AllocError>
     ensures { OnOk result
         (string_bytes out.new ≡ string_bytes out.old ++ flat_map escape (encode_utf8 c)) }

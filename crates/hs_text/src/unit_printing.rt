@@ -18,7 +18,7 @@ fn write_param(out: &mut String, param: &Param) -> Result<(), AllocError>
     out.push_str(param.kind.text.as_str())
 }
 
-// Writes the parameters after the first.
+/// Writes the parameters after the first.
 fn write_more_params(out: &mut String, params: &[Param]) -> Result<(), AllocError>
     ensures { OnOk result (string_bytes out.new ≡ string_bytes out.old
         ++ flat_map (λ next. codes ", " ++ next) (map param_text params.now)) }
@@ -88,7 +88,7 @@ fn write_bind(alloc: Global, out: &mut String, bind: &Bind) -> Result<(), AllocE
     }
 }
 
-// Writes the binds after the first.
+/// Writes the binds after the first.
 fn write_more_binds(alloc: Global, out: &mut String, binds: &[Bind]) -> Result<(), AllocError>
     ensures { OnOk result (string_bytes out.new
         ≡ string_bytes out.old ++ flat_map (λ next. codes ", " ++ next) (map bind_text binds.now)) }
@@ -122,7 +122,7 @@ fn write_call(alloc: Global, out: &mut String, call: &Call) -> Result<(), AllocE
     out.push_str(")")
 }
 
-// Writes a line with a call, which begins so.
+/// Writes a line with a call, which begins so.
 fn write_call_line(
     alloc: Global,
     out: &mut String,
@@ -157,7 +157,7 @@ fn write_count(alloc: Global, out: &mut String, count: &Count) -> Result<(), All
     }
 }
 
-// Writes what the opening line of a unit says of its body.
+/// Writes what the opening line of a unit says of its body.
 fn write_body_kind(alloc: Global, out: &mut String, body: &Body) -> Result<(), AllocError>
     ensures { OnOk result (string_bytes out.new ≡ string_bytes out.old ++ body_kind body.now) }
 {

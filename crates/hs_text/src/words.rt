@@ -9,7 +9,7 @@ use hs_expr::{List, Name, Piece, Sign, Span, Text};
 use hs_tokens::{Kind, Token};
 use std::alloc::{AllocError, Global};
 
-// The characters of a span.
+/// The characters of a span.
 fn part(source: &[char], span: Span) -> &[char]
     ensures { result.now ≡ slice source.now span }
 {
@@ -42,7 +42,7 @@ fn escape_value(c: char) -> char
     }
 }
 
-// The text that follows the first quote, without its escapes.
+/// The text that follows the first quote, without its escapes.
 fn text_content(alloc: Global, chars: &[char]) -> Result<String, AllocError>
     ensures { IfOk result (λ s. string_bytes s ≡ encode_utf8_all (content false chars.now)) }
 {
