@@ -1,11 +1,13 @@
 //! Tests of public calls of the readers of rule texts: tokens, syntax, expressions, faults, and
-//! what a text means. They are here so that the libraries are proved once.
+//! what a text denotes. They are here so that the libraries are proved once.
 #![tactic(auto)]
 
 #[cfg(test)]
 mod evaluation;
 #[cfg(test)]
 mod expressions;
+#[cfg(test)]
+mod faults;
 #[cfg(test)]
 mod meaning;
 #[cfg(test)]

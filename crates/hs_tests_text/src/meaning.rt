@@ -371,38 +371,19 @@ fn canonical_text_means_the_same(rt: HostRuntime) -> Result<(), Fail> {
 #[test]
 fn kernels_are_understood(rt: HostRuntime) -> Result<(), Fail> {
     let table = "\
-rule transfer(in from: Account, in to: Account, in amount: int)
-    { preserve node from: Account; preserve node to: Account; where (amount > 0) and
-    (from.balance >= amount); set from.balance = from.balance - amount; set to.balance = to.balance
-    + amount; } || transfer( In from:Object(2) In to:Object(2) In amount:Data(Int) ) from:2:Keep
-    to:2:Keep 0.Attribute(3):true 1.Attribute(3):true where
-    ((p2 Greater Int(0)) And (0.3 AtLeast p2)) set 0.3=(0.3 Minus p2) set 1.3=(1.3 Plus p2)
+rule transfer(in from: Account, in to: Account, in amount: int) { preserve node from: Account; preserve node to: Account; where (amount > 0) and (from.balance >= amount); set from.balance = from.balance - amount; set to.balance = to.balance + amount; } || transfer( In from:Object(2) In to:Object(2) In amount:Data(Int) ) from:2:Keep to:2:Keep 0.Attribute(3):true 1.Attribute(3):true where ((p2 Greater Int(0)) And (0.3 AtLeast p2)) set 0.3=(0.3 Minus p2) set 1.3=(1.3 Plus p2)
 rule lone(out c: Client) { create node c: Client; } || lone( Out c:Object(1) ) c:1:Make
-rule openAccount(in c: Client, out a: Account)
-    { preserve node c: Client; create node a: Account; create edge c -> a: accounts; }
-    || openAccount( In c:Object(1) Out a:Object(2) ) c:1:Keep a:2:Make 0-1>1:Make
+rule openAccount(in c: Client, out a: Account) { preserve node c: Client; create node a: Account; create edge c -> a: accounts; } || openAccount( In c:Object(1) Out a:Object(2) ) c:1:Keep a:2:Make 0-1>1:Make
 rule dropClient(in c: Client) { delete node c: Client; } || dropClient( In c:Object(1) ) c:1:Drop
-rule unlink(in c: Client, in a: Account)
-    { preserve node c: Client; preserve node a: Account; delete edge c -> a: accounts; }
-    || unlink( In c:Object(1) In a:Object(2) ) c:1:Keep a:2:Keep 0-1>1:Drop
+rule unlink(in c: Client, in a: Account) { preserve node c: Client; preserve node a: Account; delete edge c -> a: accounts; } || unlink( In c:Object(1) In a:Object(2) ) c:1:Keep a:2:Keep 0-1>1:Drop
 rule two() { preserve node x: Account; preserve node y: Account; } || two( ) x:2:Keep y:2:Keep
-rule dropTwice() { preserve node y: Client; delete node x: Account; delete edge y -> x: accounts;
-    delete edge y -> x: accounts; } || dropTwice( ) y:1:Keep x:2:Drop 0-1>1:Drop 0-1>1:Drop
-rule touch() { preserve node q: Client; preserve node p: Account; preserve edge q -> p: accounts;
-    preserve edge q -> p: accounts; } || touch( ) q:1:Keep p:2:Keep 0-1>1:Keep 0-1>1:Keep
-rule unassign(in a: Account, in c: Client)
-    { preserve node a: Account; preserve node c: Client; delete edge a -> c: owner; }
-    || unassign( In a:Object(2) In c:Object(1) ) a:2:Keep c:1:Keep 0-4>1:Drop
-rule openOwned(in c: Client, out a: Account)
-    { preserve node c: Client; create node a: Account; create edge a -> c: owner; }
-    || openOwned( In c:Object(1) Out a:Object(2) ) c:1:Keep a:2:Make 1-4>0:Make
-rule wide() { delete edge n0 -> n1: knows; preserve node n0: Client; preserve node n1: Client;
-    preserve node n2: Client; } || wide( ) n0:1:Keep n1:1:Keep n2:1:Keep 0-2>1:Drop
-rule add(in a: Account) { preserve node a: Account; set a.balance = a.balance + 1; }
-    || add( In a:Object(2) ) a:2:Keep 0.Attribute(3):true set 0.3=(0.3 Plus Int(1))
-rule first(out a: Account)
-    { create node a: Account; preserve node t: Account; set a.balance = t.balance; }
-    || first( Out a:Object(2) ) a:2:Make t:2:Keep 1.Attribute(3):false set 0.3=1.3
+rule dropTwice() { preserve node y: Client; delete node x: Account; delete edge y -> x: accounts; delete edge y -> x: accounts; } || dropTwice( ) y:1:Keep x:2:Drop 0-1>1:Drop 0-1>1:Drop
+rule touch() { preserve node q: Client; preserve node p: Account; preserve edge q -> p: accounts; preserve edge q -> p: accounts; } || touch( ) q:1:Keep p:2:Keep 0-1>1:Keep 0-1>1:Keep
+rule unassign(in a: Account, in c: Client) { preserve node a: Account; preserve node c: Client; delete edge a -> c: owner; } || unassign( In a:Object(2) In c:Object(1) ) a:2:Keep c:1:Keep 0-4>1:Drop
+rule openOwned(in c: Client, out a: Account) { preserve node c: Client; create node a: Account; create edge a -> c: owner; } || openOwned( In c:Object(1) Out a:Object(2) ) c:1:Keep a:2:Make 1-4>0:Make
+rule wide() { delete edge n0 -> n1: knows; preserve node n0: Client; preserve node n1: Client; preserve node n2: Client; } || wide( ) n0:1:Keep n1:1:Keep n2:1:Keep 0-2>1:Drop
+rule add(in a: Account) { preserve node a: Account; set a.balance = a.balance + 1; } || add( In a:Object(2) ) a:2:Keep 0.Attribute(3):true set 0.3=(0.3 Plus Int(1))
+rule first(out a: Account) { create node a: Account; preserve node t: Account; set a.balance = t.balance; } || first( Out a:Object(2) ) a:2:Make t:2:Keep 1.Attribute(3):false set 0.3=1.3
 rule last() { preserve node a: Account; delete node b: Account; where b.balance > 0; set a.balance = 1; where a.name == b.name; } || last( ) a:2:Keep b:2:Drop 0.Attribute(0):false 0.Attribute(3):true 1.Attribute(0):false 1.Attribute(3):false where (1.3 Greater Int(0)) where (0.0 Equal 1.0) set 0.3=Int(1)";
     let wrong = first_wrong(rt.alloc(), table)?;
     assert!(rt; wrong.is_none(), "{wrong:?}");
@@ -412,15 +393,9 @@ rule last() { preserve node a: Account; delete node b: Account; where b.balance 
 #[test]
 fn blocks_go_on_from_the_kernel(rt: HostRuntime) -> Result<(), Fail> {
     let table = "\
-rule assign(in a: Account, in c: Client) { preserve node a: Account; preserve node c: Client;
-    create edge a -> c: owner; forbid { edge a -> c: owner; } }
-    || assign( In a:Object(2) In c:Object(1) ) a:2:Keep c:1:Keep 0-4>1:Make forbid( 0-4>1:Keep )
-rule reset(in a: Account) { preserve node a: Account; set a.balance = 0;
-    forbid { node d: Client; edge a -> d: owner; } } || reset( In a:Object(2) ) a:2:Keep
-    0.Attribute(3):true forbid( d:1:Keep 0-4>1:Keep ) set 0.3=Int(0)
-rule purge(in x: Account)
-    { delete node x: Account; multi { preserve node y: Client; delete edge y -> x: accounts; } }
-    || purge( In x:Object(2) ) x:2:Drop multi( y:1:Keep 1-1>0:Drop )
+rule assign(in a: Account, in c: Client) { preserve node a: Account; preserve node c: Client; create edge a -> c: owner; forbid { edge a -> c: owner; } } || assign( In a:Object(2) In c:Object(1) ) a:2:Keep c:1:Keep 0-4>1:Make forbid( 0-4>1:Keep )
+rule reset(in a: Account) { preserve node a: Account; set a.balance = 0; forbid { node d: Client; edge a -> d: owner; } } || reset( In a:Object(2) ) a:2:Keep 0.Attribute(3):true forbid( d:1:Keep 0-4>1:Keep ) set 0.3=Int(0)
+rule purge(in x: Account) { delete node x: Account; multi { preserve node y: Client; delete edge y -> x: accounts; } } || purge( In x:Object(2) ) x:2:Drop multi( y:1:Keep 1-1>0:Drop )
 rule all() { forbid { node d: Client; } multi { delete node f: Account; } preserve node a: Account; require { node e: Client; node g: Client; edge g -> a: accounts; } create node c: Account; multi { preserve node b: Client; preserve edge b -> a: accounts; where a.balance > 0; set b.name = a.name; } } || all( ) a:2:Keep c:2:Make 0.Attribute(0):false 0.Attribute(3):false forbid( d:1:Keep ) require( e:1:Keep g:1:Keep 3-1>0:Keep ) multi( f:2:Drop ) multi( b:1:Keep 2-1>0:Keep 2.Attribute(0):true where (0.3 Greater Int(0)) set 2.0=0.0 )";
     let wrong = first_wrong(rt.alloc(), table)?;
     assert!(rt; wrong.is_none(), "{wrong:?}");
@@ -430,17 +405,13 @@ rule all() { forbid { node d: Client; } multi { delete node f: Account; } preser
 #[test]
 fn units_are_understood(rt: HostRuntime) -> Result<(), Fail> {
     let table = "\
-unit a() sequential { } unit b() sequential { } unit c() priority { b(); a(); }
-    || c( ) priority Unit(1) Unit(0)
+unit a() sequential { } unit b() sequential { } unit c() priority { b(); a(); } || c( ) priority Unit(1) Unit(0)
 rule r() { } rule s() { } unit u() independent { s(); r(); v(); } || nothing
-unit v() sequential { } rule r() { } rule s() { } unit u() independent { s(); r(); v(); }
-    || u( ) independent Rule(1) Rule(0) Unit(0)
+unit v() sequential { } rule r() { } rule s() { } unit u() independent { s(); r(); v(); } || u( ) independent Rule(1) Rule(0) Unit(0)
 rule r(in n: int, in t: text, in b: bool, in c: Client, out a: Account) { preserve node c: Client; create node a: Account; } unit u(in x: Client, out y: Account) loop { r(n = -007, t = \"x\", b = true, c = x, a > y); } || u( In x:Object(1) Out y:Object(2) ) loop Rule(0) n=-7 t=\"x\" b=true c=x a>y
-rule r(in n: int) { } unit u(in n: int) iterated n { r(n = 9223372036854775807); }
-    || u( In n:Data(Int) ) iterated n Rule(0) n=9223372036854775807
+rule r(in n: int) { } unit u(in n: int) iterated n { r(n = 9223372036854775807); } || u( In n:Data(Int) ) iterated n Rule(0) n=9223372036854775807
 rule r() { } unit u() iterated 3 { r(); } || u( ) iterated 3 Rule(0)
-rule r() { } rule s() { } unit u() conditional { if r(); then s(); else r(); } || u( ) if Rule(0)
-    then Rule(1) else Rule(0)
+rule r() { } rule s() { } unit u() conditional { if r(); then s(); else r(); } || u( ) if Rule(0) then Rule(1) else Rule(0)
 rule r() { } unit u(in t: text, in b: bool) conditional { if r(); then r(); } || u( In t:Data(Text) In b:Data(Bool) ) if Rule(0) then Rule(0)";
     let wrong = first_wrong(rt.alloc(), table)?;
     assert!(rt; wrong.is_none(), "{wrong:?}");

@@ -162,8 +162,7 @@ unit pay(in c: Client, in from: Account, in to: Account, in amount: int,
   }
 }
 
-unit pay(in c: Client, in from: Account, in to: Account, in amount: int, out n: Account) sequential
-    {
+unit pay(in c: Client, in from: Account, in to: Account, in amount: int, out n: Account) sequential {
   openAccount(c = c, a > n);
   transfer(from = from, to = to, amount = amount);
 }

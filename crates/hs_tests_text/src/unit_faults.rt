@@ -1,237 +1,77 @@
 //! Faults of units.
 
-use crate::rule_faults::MODEL;
-use hs_expr::Failure;
-use hs_faults::{Within, check};
-use hs_tests_model::model_of;
-use hs_text::parse;
-use hs_types::Meta;
+use crate::faults::{first_wrong, is_reported};
 use std::alloc::{AllocError, Global};
 use std::test::Fail;
 
-/// What is reported of the text: `rule` or `unit`, and `line:column kind`, or `fine`.
-fn report_of(alloc: Global, meta: &Meta, text: &str) -> Result<String, AllocError> {
-    let Ok(syntax) = parse(alloc, text) else {
-        return String::from_str(alloc, "no text");
-    };
-    match check(alloc, meta, &syntax) {
-        Ok(()) => String::from_str(alloc, "fine"),
-        Err(Failure::Fault(fault)) => {
-            let place = match fault.within {
-                Within::Unit => "unit",
-                Within::Rule => "rule",
-            };
-            format!(in alloc; "{place} {}:{} {:?}", fault.line, fault.column, fault.kind)
-        }
-        Err(Failure::NoMemory) => String::from_str(alloc, "no memory"),
-    }
-}
-
-fn is_answer(alloc: Global, text: &str, wanted: &str) -> Result<bool, AllocError> {
-    match model_of(alloc, MODEL) {
-        Some(meta) => Ok(report_of(alloc, &meta, text)?.as_str() == wanted),
-        None => Ok(false),
-    }
-}
-
-/// Whether this fault of a unit is reported where the second part of the text begins.
-fn is_reported(alloc: Global, front: &str, back: &str, kind: &str) -> Result<bool, AllocError> {
-    let mut text = String::from_str(alloc, front)?;
-    text.push_str(back)?;
-    let wanted = format!(in alloc; "unit 1:{} {kind}", front.len().saturating_add(1))?;
-    is_answer(alloc, text.as_str(), wanted.as_str())
-}
+const RIGHT: &str = r#"unit u() sequential { } || fine
+unit u(in n: int, out c: Client) iterated n { v(c > c, x = -1); } unit v(in x: int, out c: Client) sequential { } || fine
+rule r(in a: Account) { preserve node a: Account; } unit u(in a: Account) loop { r(a = a); } || fine
+unit u(out a: Account) priority { v(t = a); } unit v(in t: Thing) independent { } || fine
+unit u(out t: Thing) sequential { v(a > t); v(a > t); v(); } unit v(out a: Account) sequential { } || fine
+unit u(in b: bool) conditional { if v(b = b, s = ""); then w(); else w(); } unit v(in b: bool, in s: text) sequential { } rule w() { } || fine
+unit u() sequential { v(); w(); } unit v() loop { w(); } unit w() sequential { } || fine"#;
 
 #[test]
 fn right_units_are_fine(rt: HostRuntime) -> Result<(), Fail> {
-    let cases = [
-        "unit u() sequential { }",
-        "unit u(in n: int, out c: Client) iterated n { v(c > c, x = -1); } unit v(in x: int, out c: Client) sequential { }",
-        "rule r(in a: Account) { preserve node a: Account; } unit u(in a: Account) loop { r(a = a); }",
-        "unit u(out a: Account) priority { v(t = a); } unit v(in t: Thing) independent { }",
-        "unit u(out t: Thing) sequential { v(a > t); v(a > t); v(); } unit v(out a: Account) sequential { }",
-        "unit u(in b: bool) conditional { if v(b = b, s = \"\"); then w(); else w(); } unit v(in b: bool, in s: text) sequential { } rule w() { }",
-        "unit u() sequential { v(); w(); } unit v() loop { w(); } unit w() sequential { }",
-    ];
-    for text in cases {
-        assert!(rt; is_answer(rt.alloc(), text, "fine")?, "{text}");
-    }
+    assert_eq!(rt; first_wrong(rt.alloc(), RIGHT, "")?, None);
     Ok(())
 }
+
+const NAMES: &str = r#"unit ^u() sequential { } rule u() { } || unit Twice
+unit u() sequential { } unit ^u(in a: Nothing) sequential { } || unit Twice
+unit u(in a: int, in ^a: Nothing) sequential { } || unit Twice
+unit u(in a: ^Nothing, out b: int) sequential { } || unit UnknownClass
+unit u(out ^a: int, in b: Nothing) sequential { v(); } || unit ArgMismatch
+unit u(out ^a: text) sequential { v(); } || unit ArgMismatch"#;
 
 #[test]
 fn names_and_parameters_are_checked(rt: HostRuntime) -> Result<(), Fail> {
-    let cases = [
-        ("unit ", "u() sequential { } rule u() { }", "Twice"),
-        (
-            "unit u() sequential { } unit ",
-            "u(in a: Nothing) sequential { }",
-            "Twice",
-        ),
-        (
-            "unit u(in a: int, in ",
-            "a: Nothing) sequential { }",
-            "Twice",
-        ),
-        (
-            "unit u(in a: ",
-            "Nothing, out b: int) sequential { }",
-            "UnknownClass",
-        ),
-        (
-            "unit u(out ",
-            "a: int, in b: Nothing) sequential { v(); }",
-            "ArgMismatch",
-        ),
-        ("unit u(out ", "a: text) sequential { v(); }", "ArgMismatch"),
-    ];
-    for (front, back, kind) in cases {
-        assert!(rt;
-            is_reported(rt.alloc(), front, back, kind)?,
-            "{front}{back}"
-        );
-    }
+    assert_eq!(rt; first_wrong(rt.alloc(), NAMES, "")?, None);
     Ok(())
 }
+
+/// What the calls of the table call.
+const CALLEE: &str = " unit v(in n: int, in t: Client, out c: Client, out d: Thing) sequential { }";
+
+const CALLS: &str = r#"unit u() sequential { ^x(); v(); } || unit UnknownUnit
+unit u() sequential { ^v(); x(); } || unit ArgMismatch
+unit u(in c: Client) loop { ^v(n = 1, t = c, n = 2); } || unit ArgMismatch
+unit u(in c: Client) loop { ^v(n = 1, t = c, x = 2); } || unit ArgMismatch
+unit u(in c: Client) loop { ^v(n = true, t = c); } || unit ArgMismatch
+unit u() loop { ^v(n = 1, t = 1); } || unit ArgMismatch
+unit u(in c: Thing) loop { ^v(n = 1, t = c); } || unit ArgMismatch
+unit u(in c: Client) loop { ^v(n = c, t = c); } || unit ArgMismatch
+unit u() loop { ^v(n = 1, t = c); } || unit ArgMismatch
+unit u(in c: Client) loop { ^v(n = 1, t = c, c = c); } || unit ArgMismatch
+unit u(in c: Client) loop { ^v(n = 1, t = c, c > c); } || unit ArgMismatch
+unit u(out c: Client) loop { ^v(n = 1, t > c); } || unit ArgMismatch
+unit u(out c: Client) loop { ^v(n = 1, t = c, c > c, c > c); } || unit ArgMismatch
+unit u(out c: Client) loop { ^v(n = 1, t = c, d > c); } || unit ArgMismatch
+unit u() conditional { if w(); then w(); else ^v(); } unit w() sequential { } || unit ArgMismatch"#;
 
 #[test]
 fn calls_are_checked(rt: HostRuntime) -> Result<(), Fail> {
-    let callee = " unit v(in n: int, in t: Client, out c: Client, out d: Thing) sequential { }";
-    let cases = [
-        ("unit u() sequential { ", "x(); v(); }", "UnknownUnit"),
-        ("unit u() sequential { ", "v(); x(); }", "ArgMismatch"),
-        (
-            "unit u(in c: Client) loop { ",
-            "v(n = 1, t = c, n = 2); }",
-            "ArgMismatch",
-        ),
-        (
-            "unit u(in c: Client) loop { ",
-            "v(n = 1, t = c, x = 2); }",
-            "ArgMismatch",
-        ),
-        (
-            "unit u(in c: Client) loop { ",
-            "v(n = true, t = c); }",
-            "ArgMismatch",
-        ),
-        ("unit u() loop { ", "v(n = 1, t = 1); }", "ArgMismatch"),
-        (
-            "unit u(in c: Thing) loop { ",
-            "v(n = 1, t = c); }",
-            "ArgMismatch",
-        ),
-        (
-            "unit u(in c: Client) loop { ",
-            "v(n = c, t = c); }",
-            "ArgMismatch",
-        ),
-        ("unit u() loop { ", "v(n = 1, t = c); }", "ArgMismatch"),
-        (
-            "unit u(in c: Client) loop { ",
-            "v(n = 1, t = c, c = c); }",
-            "ArgMismatch",
-        ),
-        (
-            "unit u(in c: Client) loop { ",
-            "v(n = 1, t = c, c > c); }",
-            "ArgMismatch",
-        ),
-        (
-            "unit u(out c: Client) loop { ",
-            "v(n = 1, t > c); }",
-            "ArgMismatch",
-        ),
-        (
-            "unit u(out c: Client) loop { ",
-            "v(n = 1, t = c, c > c, c > c); }",
-            "ArgMismatch",
-        ),
-        (
-            "unit u(out c: Client) loop { ",
-            "v(n = 1, t = c, d > c); }",
-            "ArgMismatch",
-        ),
-        (
-            "unit u() conditional { if w(); then w(); else ",
-            "v(); } unit w() sequential { }",
-            "ArgMismatch",
-        ),
-    ];
-    let alloc = rt.alloc();
-    for (front, back, kind) in cases {
-        let text = format!(in alloc; "{back}{callee}")?;
-        assert!(rt;
-            is_reported(alloc, front, text.as_str(), kind)?,
-            "{front}{back}"
-        );
-    }
+    assert_eq!(rt; first_wrong(rt.alloc(), CALLS, CALLEE)?, None);
     Ok(())
 }
 
+const OTHERS: &str =
+    r#"unit u() loop { v(); } unit v(out c: ^Nothing) sequential { } || unit UnknownClass
+unit u(out c: Client) loop { ^v(d > c); } unit v(out d: Nothing) sequential { } || unit ArgMismatch
+unit u() loop { ^v(); } unit v(in c: Nothing) sequential { } || unit ArgMismatch
+unit u() loop { v(); } unit v(out c: Client, in ^c: int) sequential { } || unit Twice
+unit u(in n: bool) iterated n { ^v(); } || unit UnknownUnit
+rule r() { } unit u(in n: bool) iterated ^n { r(); } || unit ArgMismatch
+rule r() { } unit u() iterated ^n { r(); } || unit ArgMismatch
+unit ^u() loop { v(); } unit v() loop { u(); } || unit UnitCycle
+unit w() loop { u(); } unit ^u() loop { v(); } unit v() loop { u(); } || unit UnitCycle
+unit u() loop { u(); } unit v() loop { ^x(); } || unit UnknownUnit
+unit u() loop { x(); } rule r() { ^where 1; } || rule BadKind"#;
+
 #[test]
-fn other_faults_of_units_are_told(rt: HostRuntime) -> Result<(), Fail> {
-    let cases = [
-        (
-            "unit u() loop { v(); } unit v(out c: ",
-            "Nothing) sequential { }",
-            "UnknownClass",
-        ),
-        (
-            "unit u(out c: Client) loop { ",
-            "v(d > c); } unit v(out d: Nothing) sequential { }",
-            "ArgMismatch",
-        ),
-        (
-            "unit u() loop { ",
-            "v(); } unit v(in c: Nothing) sequential { }",
-            "ArgMismatch",
-        ),
-        (
-            "unit u() loop { v(); } unit v(out c: Client, in ",
-            "c: int) sequential { }",
-            "Twice",
-        ),
-        ("unit u(in n: bool) iterated n { ", "v(); }", "UnknownUnit"),
-        (
-            "rule r() { } unit u(in n: bool) iterated ",
-            "n { r(); }",
-            "ArgMismatch",
-        ),
-        (
-            "rule r() { } unit u() iterated ",
-            "n { r(); }",
-            "ArgMismatch",
-        ),
-        (
-            "unit ",
-            "u() loop { v(); } unit v() loop { u(); }",
-            "UnitCycle",
-        ),
-        (
-            "unit w() loop { u(); } unit ",
-            "u() loop { v(); } unit v() loop { u(); }",
-            "UnitCycle",
-        ),
-        (
-            "unit u() loop { u(); } unit v() loop { ",
-            "x(); }",
-            "UnknownUnit",
-        ),
-    ];
-    for (front, back, kind) in cases {
-        assert!(rt;
-            is_reported(rt.alloc(), front, back, kind)?,
-            "{front}{back}"
-        );
-    }
-    assert!(rt;
-        is_answer(
-            rt.alloc(),
-            "unit u() loop { x(); } rule r() { where 1; }",
-            "rule 1:35 BadKind"
-        )?
-    );
+fn other_faults_of_units_are_reported(rt: HostRuntime) -> Result<(), Fail> {
+    assert_eq!(rt; first_wrong(rt.alloc(), OTHERS, "")?, None);
     Ok(())
 }
 
@@ -263,26 +103,26 @@ fn limits_of_units_are_kept(rt: HostRuntime) -> Result<(), Fail> {
         (numbered(alloc, "unit u(", param, 15, params)?, "fine"),
         (
             numbered(alloc, "unit u(", param, 16, params)?,
-            "unit 1:6 Limit",
+            "1:6 unit Limit",
         ),
         (
             numbered(alloc, "unit u(", param, 16, "in z: int) loop { x(); }")?,
-            "unit 1:224 UnknownUnit",
+            "1:224 unit UnknownUnit",
         ),
         (numbered(alloc, calls, call, 16, "}")?, "fine"),
-        (numbered(alloc, calls, call, 17, "}")?, "unit 1:19 Limit"),
+        (numbered(alloc, calls, call, 17, "}")?, "1:19 unit Limit"),
         (
             numbered(alloc, "", unit, 63, "unit u0() sequential { }")?,
-            "unit 64:6 Twice",
+            "64:6 unit Twice",
         ),
         (
             numbered(alloc, "", unit, 64, "unit u0() sequential { }")?,
-            "unit 65:6 Limit",
+            "65:6 unit Limit",
         ),
     ];
     for (text, wanted) in &cases {
         assert!(rt;
-            is_answer(alloc, text.as_str(), wanted)?,
+            is_reported(alloc, text.as_str(), wanted)?,
             "{}",
             text.as_str()
         );
@@ -307,6 +147,6 @@ fn many_calls(alloc: Global, count: u32) -> Result<String, AllocError> {
 #[test]
 fn many_calls_of_many_parameters_are_checked(rt: HostRuntime) -> Result<(), Fail> {
     let text = many_calls(rt.alloc(), 20_000)?;
-    assert!(rt; is_answer(rt.alloc(), text.as_str(), "unit 1:6 Limit")?,);
+    assert!(rt; is_reported(rt.alloc(), text.as_str(), "1:6 unit Limit")?,);
     Ok(())
 }
