@@ -13,9 +13,9 @@ use Rattle.hs_types.specs.declared.rule.Rule.{Rule}
 use Rattle.hs_types.specs.Copies.{AreCopies, IsCopy}
 use Rattle.hs_expr.specs.Lists.{EachPair}
 use Rattle.hs_expr.specs.Lexicographic.{IsBefore}
-use Rattle.hs_types.specs.MatchOrder.{IsEarlier}
+use Rattle.hs_types.specs.MatchOrder.{IsEarlier, IsFirstOf, IsLeastOf, IsNextOf}
 use Rattle.hs_types.specs.PlainMatch.{kernel_of}
-use Rattle.hs_types.specs.ValidMatch.{IsFirst, IsLeast, IsValid}
+use Rattle.hs_types.specs.ValidMatch.{IsFirst, IsLeast, IsLeastAfter, IsNext, IsValid}
 
 pub IsBefore-not_itself : (ns : List ℕ) → IsBefore ns ns → ⊥
 IsBefore-not_itself [] h = h
@@ -142,3 +142,34 @@ IsFirst-same m g rule args None None h k = refl
 IsFirst-same m g rule args None (Some f) h k = absurd (h f k.valid)
 IsFirst-same m g rule args (Some f) None h k = absurd (k f h.valid)
 IsFirst-same m g rule args (Some f) (Some e) h k = ap Some (IsLeast-same m g rule args f e h k)
+
+-- The next match is one.
+IsLeastAfter-same : (m : Metamodel) (g : Graph) (rule : Rule) (args : Args) (after f h : Match) → IsLeastAfter m g rule args after f → IsLeastAfter m g rule args after h → f ≡ h
+IsLeastAfter-same m g rule args after f h a b = elim (IsEarlier-total (kernel_of f) (kernel_of h)) [
+  | inl k ↦ absurd (b.least f a.valid a.later k)
+  | inr (inl e) ↦ IsValid-same m g rule args f h a.valid b.valid e
+  | inr (inr k) ↦ absurd (a.least h b.valid b.later k)
+]
+
+pub IsNext-same : (m : Metamodel) (g : Graph) (rule : Rule) (args : Args) (after : Match) (a b : Option Match) → IsNext m g rule args after a → IsNext m g rule args after b → a ≡ b
+IsNext-same m g rule args after None None h k = refl
+IsNext-same m g rule args after None (Some f) h k = absurd (h f k.valid k.later)
+IsNext-same m g rule args after (Some f) None h k = absurd (k f h.valid h.later)
+IsNext-same m g rule args after (Some f) (Some k) h l = ap (λ (x : Match). Some x) (IsLeastAfter-same m g rule args after f k h l)
+
+-- The least extension is one.
+IsLeastOf-same : (P : Extension → Type 0) (x y : Extension) → IsLeastOf P x → IsLeastOf P y → x ≡ y
+IsLeastOf-same P x y a b = elim (IsEarlier-total x y) [
+  | inl k ↦ absurd (b.1 x a.0 k)
+  | inr (inl e) ↦ e
+  | inr (inr k) ↦ absurd (a.1 y b.0 k)
+]
+
+pub IsFirstOf-same : (P : Extension → Type 0) (a b : Option Extension) → IsFirstOf P a → IsFirstOf P b → a ≡ b
+IsFirstOf-same P None None h k = refl
+IsFirstOf-same P None (Some x) h k = absurd (h x k.0)
+IsFirstOf-same P (Some x) None h k = absurd (k x h.0)
+IsFirstOf-same P (Some x) (Some y) h k = ap (λ (z : Extension). Some z) (IsLeastOf-same P x y h k)
+
+pub IsNextOf-same : (P : Extension → Type 0) (after : Extension) (a b : Option Extension) → IsNextOf P after a → IsNextOf P after b → a ≡ b
+IsNextOf-same P after a b h k = IsFirstOf-same (λ (x : Extension). P x × IsEarlier after x) a b h k
