@@ -117,5 +117,8 @@ fn first_request(sessions: &[List<Request>]) -> Option<&Request>
     ensures { option_copied result
         ≡ option_and_then (λ session. slice_get session 0) (slice_get sessions.now 0) }
 {
-    sessions.first()?.get(0)
+    match sessions.first() {
+        Some(session) => session.get(0),
+        None => None,
+    }
 }
