@@ -15,3 +15,4 @@ pub mod Lawful
 pub mod Fitting
 pub mod ValueKinds
 pub mod Overflow
+pub mod Coming

@@ -25,5 +25,6 @@ pub use journals::{
 pub use order::{least_is_unique, order_is_total};
 pub use sparing::spared_matches_stay_valid;
 pub use steps::{
-    nothing_dangles_without_deletion, plans_fit, steps_change_what_they_name, steps_stay_typed,
+    nothing_dangles_without_deletion, plans_fit, steps_bring_what_they_name,
+    steps_change_what_they_name, steps_stay_typed,
 };

@@ -1,13 +1,16 @@
 //! What a step of a valid match leaves true.
 
-ghost use Rattle.std.specs.Prelude.{◌≡◌, ◌≤◌, ◌<◌, ◌+◌, ℕ, List, length, true, false, Some, None};
+ghost use Rattle.std.specs.Prelude.{◌≡◌, ◌≤◌, ◌<◌, ◌+◌, ℕ, List, length, slice_get, true, false, Some, None};
 ghost use Rattle.std.specs.List.{All, list_any};
 ghost use Rattle.hs_types.specs.declared.graph.Edge.{Edge};
 ghost use Rattle.hs_types.specs.declared.graph.Graph.{Graph};
 ghost use Rattle.hs_types.specs.declared.graph.Object.{Object};
 ghost use Rattle.hs_types.specs.declared.matching.Match.{Match};
 ghost use Rattle.hs_types.specs.declared.meta.Metamodel.{Metamodel};
+ghost use Rattle.hs_types.specs.declared.plan.MadeEdge.{MadeEdge};
+ghost use Rattle.hs_types.specs.declared.plan.MadeObject.{MadeObject};
 ghost use Rattle.hs_types.specs.declared.plan.Plan.{Plan};
+ghost use Rattle.hs_types.specs.declared.plan.Write.{Write};
 ghost use Rattle.hs_types.specs.declared.request.Args.{Args};
 ghost use Rattle.hs_types.specs.declared.rule.Rule.{Rule};
 ghost use Rattle.hs_types.specs.declared.rule.SlotKind.{SlotKind};
@@ -17,8 +20,8 @@ ghost use Rattle.hs_types.specs.Metamodel.{IsMeta};
 ghost use Rattle.hs_types.specs.Pattern.{is_drop};
 ghost use Rattle.hs_types.specs.Plan.{Fits, plan_of};
 ghost use Rattle.hs_types.specs.RuleForm.{IsRule};
-ghost use Rattle.hs_types.specs.Step.{is_to, object_after, step};
-ghost use Rattle.hs_types.specs.TypedGraph.{IsTyped, edge_at, object_at, value_at};
+ghost use Rattle.hs_types.specs.Step.{is_to, number_of, object_after, step};
+ghost use Rattle.hs_types.specs.TypedGraph.{IsTyped, edge_at, hash_name, object_at, value_at};
 ghost use Rattle.hs_types.specs.ValidMatch.{IsValid, all_dropped_edges, all_dropped_nodes};
 
 /// The step of a valid match of a typed graph leads to a typed graph over the same metamodel: the
@@ -66,6 +69,30 @@ pub fn steps_change_what_they_name()
         × (y ≡ object_after plan.writes x) }
     ensures no_edge_comes { (g : Graph) (plan : Plan) (n : ℕ) (e : Edge) → n < g.next_edge
         → edge_at (step g plan) n ≡ Some e → edge_at g n ≡ Some e }
+{}
+
+/// A step brings what its plan names: made objects and edges get the next numbers and names, in
+/// order, and a written slot has the written value.
+pub fn steps_bring_what_they_name()
+    ensures objects_come { (m : Metamodel) (g : Graph) (plan : Plan) (i : ℕ) (made : MadeObject)
+        → IsTyped m g → slice_get plan.make_objects i ≡ Some made
+        → object_at (step g plan) (g.next_object + i) ≡ Some (record {
+          number = g.next_object + i;
+          name = hash_name (g.next_name + i);
+          class = made.class;
+          slots = made.slots;
+        }) }
+    ensures edges_come { (m : Metamodel) (g : Graph) (plan : Plan) (i : ℕ) (made : MadeEdge)
+        → IsTyped m g → slice_get plan.make_edges i ≡ Some made
+        → edge_at (step g plan) (g.next_edge + i) ≡ Some (record {
+          number = g.next_edge + i;
+          source = number_of g.next_object made.source;
+          reference = made.reference;
+          target = number_of g.next_object made.target;
+        }) }
+    ensures values_come { (m : Metamodel) (g : Graph) (plan : Plan) (k : ℕ) (write : Write)
+        → Fits m g plan → slice_get plan.writes k ≡ Some write
+        → value_at (step g plan) write.object write.slot ≡ Some write.value }
 {}
 
 /// A rule that drops no node leaves no edge without an end, wherever it is applied.
