@@ -10,10 +10,9 @@ ghost use Rattle.hs_types.specs.Reachability.{reach_rows as rows_for};
 
 use crate::fault::ModelFault;
 use crate::raw::RawClass;
-use crate::supers::written_supers;
+use crate::supers::{rows_of, written_supers};
 use crate::{declared, inherited};
 use hs_expr::{Failure, List, as_failure};
-use hs_types::reach_rows;
 use std::alloc::Global;
 
 /// What the checks find of supertypes.
@@ -35,7 +34,7 @@ pub fn supers_of_valid(alloc: Global, classes: &[RawClass]) -> Result<Supers, Fa
     as_failure(declared::classes_differ(classes))?;
     as_failure(declared::supers_known(classes))?;
     let direct = written_supers(alloc, classes)?;
-    let rows = reach_rows(alloc, direct.as_slice())?;
+    let rows = rows_of(alloc, direct.as_slice())?;
     check_by_supers(alloc, classes, rows.as_slice())?;
     Ok(Supers { direct, rows })
 }

@@ -1,7 +1,7 @@
-use Rattle.std.proofs.Common.{◌≡◌, ◌<◌, ◌≤◌, ◌+◌, ◌++◌, ◌==◌, ◌||◌, ◌&&◌, ◌⊎◌, inl, inr, ℕ, zero, suc, List, [], ◌∷◌, length, take, drop, Bool, true, false, Option, Some, None, nat_eq, nat_le, cond, refl, sym, ap, ◌∙◌, arith, append_assoc, length-append}
+use Rattle.std.proofs.Common.{◌≡◌, ◌<◌, ◌≤◌, ◌+◌, ◌++◌, ◌==◌, ◌||◌, ◌&&◌, ◌⊎◌, inl, inr, ℕ, zero, suc, List, [], ◌∷◌, length, take, drop, min, Bool, true, false, Option, Some, None, nat_eq, nat_le, cond, refl, sym, ap, ◌∙◌, arith, append_assoc, length-append}
 use Rattle.std.specs.List.{list_all, prefix_len}
 use Rattle.std.specs.Option.{is_some}
-use Rattle.std.proofs.lemmas.List.{take-append-drop, length-take-le}
+use Rattle.std.proofs.lemmas.List.{take-append-drop, length-take-le, take_min}
 use Rattle.std.proofs.lemmas.List.Sums.{prefix_len-le-length}
 use Rattle.std.proofs.lemmas.Grind.{common_steps}
 use Rattle.std.proofs.lemmas.Bool.Decides.{nat_tests}
@@ -95,6 +95,21 @@ run-is p (c ∷ cs) (suc m) h = step (p c) refl h (run-is p cs m) where
   step : (t : Bool) → p c ≡ t → suc m ≤ cond t (1 + prefix_len p cs) 0 → (m ≤ prefix_len p cs → list_all p (take m cs) ≡ true) → (p c && list_all p (take m cs)) ≡ true
   step true e h rest = rw (e, rest (omega arith)) refl
   step false e h rest = absurd (omega arith)
+
+-- the run in the first n characters
+run-take : (p : ℕ → Bool) (cs : List ℕ) (n : ℕ) → prefix_len p (take n cs) ≡ min (prefix_len p cs) n
+run-take p [] zero = omega arith
+run-take p [] (suc n) = omega arith
+run-take p (c ∷ cs) zero = omega arith
+run-take p (c ∷ cs) (suc n) = step (p c) (run-take p cs n) where
+  step : (t : Bool) → prefix_len p (take n cs) ≡ min (prefix_len p cs) n → cond t (1 + prefix_len p (take n cs)) 0 ≡ min (cond t (1 + prefix_len p cs) 0) (suc n)
+  step true rest = omega arith
+  step false rest = omega arith
+
+pub run_within : (p : ℕ → Bool) (cs : List ℕ) (n : ℕ) → prefix_len p (take (min (length cs) n) cs) ≡ min (prefix_len p cs) n
+run_within p cs n =
+    let turned : min (length cs) n ≡ min n (length cs) = omega arith in
+    rw (turned, take_min n cs) (run-take p cs n)
 
 pub run-reaches : (p : ℕ → Bool) (xs ys : List ℕ) → list_all p xs ≡ true → length xs ≤ prefix_len p (xs ++ ys)
 run-reaches p [] ys h = omega arith

@@ -68,6 +68,16 @@ fn word_part_count(chars: &[char]) -> usize
     chars.iter().take_while(|c| is_word_part_char(**c)).count()
 }
 
+// How many letters and digits after its first letter belong to a word: no more are looked at, however
+// many follow.
+#[tactic(auto, using(crate::proofs::Longest::run_within))]
+fn word_rest_count(chars: &[char]) -> usize
+    ensures within { result ≤ length chars.now }
+    ensures count { result ≡ word_rest_len chars.now }
+{
+    word_part_count(&chars[..chars.len().min(63)])
+}
+
 fn digit_count(chars: &[char]) -> usize
     ensures within { result ≤ length chars.now }
     ensures count { result ≡ prefix_len is_digit chars.now }
@@ -231,7 +241,7 @@ fn element_in_front(first: char, chars: &[char]) -> Element
         return Element::Skipped(1);
     }
     if is_letter_char(first) {
-        let len = 1 + word_part_count(rest).min(63);
+        let len = 1 + word_rest_count(rest);
         return Element::Lexeme {
             kind: kind_of_word(&chars[..len]),
             len,

@@ -1,10 +1,9 @@
-use Rattle.std.proofs.Common.{◌≡◌, ◌≤◌, [], length, Ok, ◌∙◌, ap, subst, sym, arith}
+use Rattle.std.proofs.Common.{◌≡◌, [], Ok, ◌∙◌, ap, subst, sym}
 use Rattle.hs_types.specs.Limits.{IsSmallMeta}
 use Rattle.hs_types.specs.Metamodel.{IsMeta, supers_of}
 use Rattle.hs_types.specs.Reachability.{reach_rows}
 use Rattle.hs_meta.specs.declared.checking.Supers.{Supers}
 use Rattle.hs_meta.specs.Faults.{model_faults}
-use Rattle.hs_meta.specs.Meaning.{metamodel_of}
 use Rattle.hs_meta.specs.WrittenSupers.{supers_found}
 use Rattle.hs_expr.proofs.Faults.{none-from_value, same-from_value, value-from_none}
 use Rattle.hs_meta.proofs.IsMeta.{metamodel_of-is_meta, metamodel_of-is_small}
