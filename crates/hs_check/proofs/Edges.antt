@@ -39,17 +39,6 @@ end_is home.Kernel mark end = refl
 end_is (home.Pattern i) mark end = refl
 end_is (home.Multi i) mark end = refl
 
-pub homes_same : (g h : BlockId) → same_block g h ≡ true → g ≡ h
-homes_same home.Kernel home.Kernel e = refl
-homes_same home.Kernel (home.Pattern j) e = cc
-homes_same home.Kernel (home.Multi j) e = cc
-homes_same (home.Pattern i) home.Kernel e = cc
-homes_same (home.Pattern i) (home.Pattern j) e = ap home.Pattern (eqb-true i j e)
-homes_same (home.Pattern i) (home.Multi j) e = cc
-homes_same (home.Multi i) home.Kernel e = cc
-homes_same (home.Multi i) (home.Pattern j) e = cc
-homes_same (home.Multi i) (home.Multi j) e = ap home.Multi (eqb-true i j e)
-
 -- Where the class of a node is known, so is what is found through it.
 pub by_class : {A : Type 0} (m : Metamodel) (d : DeclaredNode) (next : ℕ → Option A) (c : ℕ) (x : A) → node_class m d ≡ Some c → option_and_then next (node_class m d) ≡ Some x → next c ≡ Some x
 by_class m d next c x of_class e = sym (ap (option_and_then next) of_class) ∙ e

@@ -28,6 +28,7 @@ use Rattle.hs_faults.specs.declared.nodes.DeclaredNode.{DeclaredNode}
 use Rattle.hs_faults.specs.Declarations.{class_name_faults, param_kind_faults}
 use Rattle.hs_faults.specs.Names.{class_number, data_named, feature_named}
 use Rattle.hs_faults.specs.Nodes.{declared_nodes}
+use Rattle.hs_faults.specs.Numbers.{data_params}
 use Rattle.hs_faults.specs.Sizes.{block_of, blocks, has_few}
 use Rattle.hs_faults.specs.StatementFaults.{slot_set_by}
 use Rattle.hs_faults.specs.Statements.{Statement, Edge, Set, Where, statement_of_element, statement_of_simple, statements, statements_of_item}
@@ -115,10 +116,10 @@ statement_there m rule clean k (Set block node attribute value) at few =
     let ds = declared_nodes rule.items in
     let nodes = nodes_seen m ds block in
     let opens = opens_at m rule clean block few in
-    let sound = sound_set m rule.params ds (flat_map slot_set_by (take k (statements rule.items))) block node attribute value (clean.said k (Set block node attribute value) at) in
+    let sound = sound_set m (data_params rule.params) ds (flat_map slot_set_by (take k (statements rule.items))) block node attribute value (clean.said k (Set block node attribute value) at) in
     let spot = opens.found node.text sound.written sound.written_open in
-    let by = attribute_spot m nodes node.text attribute.text sound.written sound.kind spot sound.attribute_of in
-    feature_there m nodes node.text attribute.text sound.written by.number spot by.named
+    let by = attribute_spot m nodes node.text attribute.text sound.written sound.wanted spot sound.named in
+    feature_there m nodes node.text attribute.text sound.written sound.wanted.0 spot by.named
 
 kind_there : (m : Metamodel) (word : Name) → param_kind_faults m word ≡ [] → is_known_kind m word.text ≡ true
 kind_there m word e = go (data_named word.text) e
