@@ -1,5 +1,5 @@
 -- What a rule without faults has: few of everything, and nodes that its parts find by name.
-use Rattle.std.proofs.Common.{ℕ, zero, suc, ◌+◌, ◌≤◌, ◌≡◌, List, [], ◌∷◌, Bool, true, false, cond, if◌then◌else◌, nat_le, length, map, take, slice_get, Option, Some, refl, ap, ap₂, sym, ◌∙◌, subst, add-zero, zero-add, arith, length-append}
+use Rattle.std.proofs.Common.{ℕ, zero, suc, ◌+◌, ◌≤◌, ◌≡◌, List, [], ◌∷◌, Bool, true, false, cond, if◌then◌else◌, nat_le, length, take, slice_get, Option, Some, refl, ap, ap₂, sym, ◌∙◌, subst, add-zero, zero-add, arith, length-append}
 use Rattle.std.proofs.lemmas.Bool.{and_parts, leb-true}
 use Rattle.std.proofs.lemmas.List.{length-map}
 use Rattle.std.proofs.lemmas.Option.{none-some, same_Some}

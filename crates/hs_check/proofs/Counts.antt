@@ -1,50 +1,41 @@
 -- A rule without faults keeps all its conditions and sets.
-use Rattle.std.proofs.Common.{ℕ, suc, ◌≡◌, ◌&&◌, List, [], ◌∷◌, Bool, true, false, cond, map, length, nat_le, take, slice_get, is_some, Option, Some, None, Ok, if◌then◌else◌, refl, ap, ap₂, sym, ◌∙◌, subst}
+use Rattle.std.proofs.Common.{ℕ, suc, ◌≡◌, List, [], ◌∷◌, Bool, true, false, cond, map, length, nat_le, take, slice_get, is_some, Option, Some, None, Ok, if◌then◌else◌, refl, ap, ap₂, sym, ◌∙◌}
 use Rattle.std.proofs.lemmas.Bool.{and_parts, false≢true}
-use Rattle.std.proofs.lemmas.List.Elements.{All-cons, All-head, All-nil, All-tail}
+use Rattle.std.proofs.lemmas.List.Elements.{All-head, All-tail}
 use Rattle.std.specs.List.{All, cons_option, filter, filter_map, flat_map, list_all}
-use Rattle.std.specs.Option.{option_and_then, option_map, option_map_or}
-use Rattle.hs_eval.specs.Checking.{Names, check_tree}
-use Rattle.hs_expr.specs.declared.Expr.{Expr}
+use Rattle.std.specs.Option.{option_map}
+use Rattle.hs_eval.specs.Checking.{Names}
 use Rattle.hs_expr.specs.declared.Kind.{Kind}
 use Rattle.hs_expr.specs.declared.Kind.TheVariants as sort
 use Rattle.hs_expr.specs.declared.Name.{Name}
 use Rattle.hs_expr.specs.declared.NameExpr.{NameExpr}
 use Rattle.hs_expr.specs.declared.Span.{Span}
 use Rattle.hs_expr.specs.Evaluation.{nesting}
-use Rattle.hs_expr.specs.NameExprs.{expr_tree}
 use Rattle.hs_expr.specs.Verdict.{each, verdict}
 use Rattle.hs_text.specs.declared.syntax.Definition.{Definition}
-use Rattle.hs_text.specs.declared.syntax.Definition.TheVariants as definition
 use Rattle.hs_text.specs.declared.syntax.Rule.{Rule as WrittenRule}
 use Rattle.hs_types.specs.declared.meta.Metamodel.{Metamodel}
 use Rattle.hs_types.specs.declared.rule.PatternNode.{PatternNode}
 use Rattle.hs_types.specs.declared.rule.Rule.{Rule}
-use Rattle.hs_types.specs.declared.rule.SetItem.{SetItem}
 use Rattle.hs_faults.specs.declared.nodes.BlockId.{BlockId}
 use Rattle.hs_faults.specs.declared.nodes.BlockId.TheVariants as home
 use Rattle.hs_faults.specs.Depths.{is_flat}
-use Rattle.hs_faults.specs.Sizes.{blocks, is_multi, sizes_fit}
+use Rattle.hs_faults.specs.Sizes.{blocks, sizes_fit}
 use Rattle.hs_faults.specs.Nodes.{declared_nodes}
 use Rattle.hs_faults.specs.Numbers.{data_params}
 use Rattle.hs_faults.specs.Statements.{Statement, Edge, Set, Where, statements}
-use Rattle.hs_faults.specs.StatementFaults.{is_shallow, nests_few, same_block, set_checked, slot_set_by, where_checked}
+use Rattle.hs_faults.specs.StatementFaults.{is_shallow, nests_few, same_block, slot_set_by}
 use Rattle.hs_faults.specs.UnitFaults.{faults_of, rules_of}
 use Rattle.hs_check.specs.Counts.{KeepAll, counts_in, is_set_of, is_where_of, multi_counts, rule_counts, written_counts}
 use Rattle.hs_check.specs.Expressions.{expr_found, expr_meant, set_in, set_meant, sets_in, where_in, wheres_in}
-use Rattle.hs_check.specs.Parameters.{params_meant}
 use Rattle.hs_check.specs.Rules.{multi_at, multi_meant, rule_meant, rules_meant, rule_contents}
-use Rattle.hs_check.proofs.Bounds.{block_opens, kernel_opens}
-use Rattle.hs_check.proofs.PartForms.{IsRight, names_in, visible_nodes}
-use Rattle.hs_check.proofs.RuleForms.{few_multis}
+use Rattle.hs_check.proofs.PartForms.{names_in, visible_nodes}
 use Rattle.hs_expr.proofs.Faults.{none-from_verdict}
-use Rattle.hs_check.proofs.BlockIds.{are_multis}
 use Rattle.hs_check.proofs.Visibility.{homes_same}
-use Rattle.hs_check.proofs.Parts.{IsFewPart, kernel_of, multi_block}
+use Rattle.hs_check.proofs.Parts.{kernel_of}
 use Rattle.hs_check.proofs.Filters.{list_all-at}
 use Rattle.hs_check.proofs.NoFaults.{Clean, IsOfKind, sound_set, sound_where}
 use Rattle.hs_check.proofs.NoUnitFaults.{clean_text}
-use Rattle.hs_expr.proofs.Items.{All-at}
 
 -- ---- lists
 

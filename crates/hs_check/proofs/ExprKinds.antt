@@ -1,5 +1,5 @@
 -- A checked expression in a scope that its names agree with: its kind, and what it reads.
-use Rattle.std.proofs.Common.{ℕ, ◌≡◌, List, [], Bool, true, Some, Ok, is_some, refl, sym, ap, ap₂, subst, ◌∙◌}
+use Rattle.std.proofs.Common.{ℕ, ◌≡◌, [], Bool, true, Some, Ok, is_some, sym, ap, ap₂, subst, ◌∙◌}
 use Rattle.std.proofs.lemmas.List.Elements.{All-append, All-cons, All-nil}
 use Rattle.std.specs.List.{All}
 use Rattle.std.specs.Option.{option_and_then}

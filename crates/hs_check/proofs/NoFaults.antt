@@ -1,10 +1,9 @@
 -- What is so of a rule in which no fault is found.
-use Rattle.std.proofs.Common.{ℕ, zero, suc, ◌+◌, ◌≡◌, ◌++◌, List, [], ◌∷◌, Bool, true, false, not, ◌&&◌, is_some, length, nat_le, take, Option, Some, None, Result, Ok, Err, slice_get, refl, ap, sym, ◌∙◌, arith, zero-add, add-zero}
+use Rattle.std.proofs.Common.{ℕ, zero, suc, ◌≡◌, ◌++◌, List, [], ◌∷◌, Bool, true, false, not, ◌&&◌, is_some, length, nat_le, take, Option, Some, None, Result, Ok, Err, slice_get, refl, ap, sym, ◌∙◌}
 use Rattle.std.proofs.lemmas.Bool.{and_parts, not-false}
 use Rattle.std.proofs.lemmas.List.{append-nil, append_assoc}
 use Rattle.std.proofs.lemmas.Option.{none-some, same_Some}
 use Rattle.std.specs.List.{flat_map}
-use Rattle.std.specs.Option.{option_map_or}
 use Rattle.hs_expr.specs.declared.Kind.{Kind}
 use Rattle.hs_expr.specs.declared.Kind.TheVariants as sort
 use Rattle.hs_expr.specs.declared.Expr.{Expr}
@@ -12,7 +11,7 @@ use Rattle.hs_expr.specs.declared.Name.{Name}
 use Rattle.hs_expr.specs.declared.NameExpr.{NameExpr}
 use Rattle.hs_expr.specs.declared.Span.{Span}
 use Rattle.hs_expr.specs.Steps.{◌>>=◌, demand, needed}
-use Rattle.hs_expr.specs.Verdict.{each, each_from, fault_if}
+use Rattle.hs_expr.specs.Verdict.{fault_if}
 use Rattle.hs_eval.specs.Checking.{Names, check_tree}
 use Rattle.hs_eval.specs.declared.fault.ExprFault.{ExprFault}
 use Rattle.hs_text.specs.declared.syntax.Definition.{Definition}
@@ -35,7 +34,7 @@ use Rattle.hs_faults.specs.ParamNodes.{fit_faults, param_node_faults}
 use Rattle.hs_faults.specs.Statements.{Statement, statements}
 use Rattle.hs_faults.specs.StatementFaults.{Slot, attribute_of, edge_checked, in_rule, is_deleted, is_of_class, is_set_before, kind_checked, may_join, rule_scope, visible_node, same_block, same_kind, set_checked, slot_set_by, statement_checked, target_from, statement_faults, first_fault, where_checked}
 use Rattle.hs_faults.specs.UnitFaults.{rules_of}
-use Rattle.hs_expr.proofs.Clean.{clean_at, clean_from, empty_parts, no_test, some-not_none}
+use Rattle.hs_expr.proofs.Clean.{clean_at, empty_parts, no_test, some-not_none}
 
 -- ---- nothing that is reported
 

@@ -1,5 +1,5 @@
 -- The kernel, the parts and the multi-rules that a rule without faults means.
-use Rattle.std.proofs.Common.{ℕ, zero, suc, ◌+◌, ◌<◌, ◌≡◌, ◌&&◌, ◌||◌, ◌++◌, List, [], ◌∷◌, Bool, true, false, cond, eqb, nat_lt, map, length, slice_get, Option, None, is_some, if◌then◌else◌, refl, ap, sym, ◌∙◌, subst, arith}
+use Rattle.std.proofs.Common.{ℕ, ◌+◌, ◌≡◌, ◌&&◌, ◌||◌, ◌++◌, List, [], ◌∷◌, Bool, true, false, cond, eqb, nat_lt, map, length, Option, None, is_some, if◌then◌else◌, refl, ap, sym, ◌∙◌, subst, arith}
 use Rattle.std.proofs.lemmas.Bool.{and_parts, eqb-true, false≢true, lt-ltb, ltb-true}
 use Rattle.std.proofs.lemmas.List.Elements.{All-append, All-cons, All-head, All-map, All-nil, All-tail, All-weaker}
 use Rattle.std.specs.List.{All, filter, flat_map, list_any}
@@ -29,7 +29,6 @@ use Rattle.hs_faults.specs.Statements.{statements}
 use Rattle.hs_faults.specs.Marks.{mark_meant}
 use Rattle.hs_check.specs.Elements.{edge_in, edges_of_part, node_meant, nodes_in}
 use Rattle.hs_check.specs.Expressions.{sets_in, wheres_in}
-use Rattle.hs_check.specs.Parameters.{params_meant}
 use Rattle.hs_check.specs.Rules.{multi_at, multi_meant, part_meant, rule_meant, rule_contents}
 use Rattle.hs_check.proofs.Bounds.{block_opens, few_nodes, few_open, is_few, kernel_opens}
 use Rattle.hs_check.proofs.PartForms.{edges_fit, names_in, nodes_fit, visible_nodes, scope_in, wheres_fit, wheres_known}

@@ -2,7 +2,7 @@
 use Rattle.std.proofs.Common.{ℕ, ◌+◌, ◌≡◌, ◌&&◌, ◌++◌, List, [], ◌∷◌, Bool, true, false, slice_get, is_some, Option, Some, None, if◌then◌else◌, refl, ap, ap₂, sym, ◌∙◌, subst, arith}
 use Rattle.std.proofs.lemmas.Bool.{and_from, false≢true}
 use Rattle.std.proofs.lemmas.List.Elements.{All-cons, All-nil}
-use Rattle.std.proofs.lemmas.Option.{none-some, same_Some, slice_get-map, slice_get_within}
+use Rattle.std.proofs.lemmas.Option.{same_Some, slice_get-map, slice_get_within}
 use Rattle.std.specs.List.{All}
 use Rattle.std.specs.Option.{option_and_then, option_map, option_map_or}
 use Rattle.hs_eval.specs.Naming.{Agrees}
@@ -18,7 +18,7 @@ use Rattle.hs_types.specs.declared.rule.Direction.TheVariants.{In}
 use Rattle.hs_types.specs.declared.rule.Param.{Param}
 use Rattle.hs_types.specs.declared.rule.ParamKind.TheVariants.{Data, Object}
 use Rattle.hs_types.specs.declared.rule.PatternNode.{PatternNode}
-use Rattle.hs_types.specs.Metamodel.{attributes_of, features_of, kind_of_type, type_of}
+use Rattle.hs_types.specs.Metamodel.{attributes_of, kind_of_type, type_of}
 use Rattle.hs_types.specs.Pattern.{is_left}
 use Rattle.hs_types.specs.RuleForm.{data_kind, slot_kind}
 use Rattle.hs_faults.specs.declared.data_parameters.DataParam.{DataParam}
@@ -27,13 +27,13 @@ use Rattle.hs_faults.specs.declared.nodes.BlockId.TheVariants as home
 use Rattle.hs_faults.specs.declared.nodes.DeclaredNode.{DeclaredNode}
 use Rattle.hs_faults.specs.Marks.{mark_meant}
 use Rattle.hs_faults.specs.Named.{first_named}
-use Rattle.hs_faults.specs.Names.{as_attribute, attribute_named, data_named, feature_named, is_named, node_named}
+use Rattle.hs_faults.specs.Names.{as_attribute, attribute_named, data_named, feature_named, node_named}
 use Rattle.hs_faults.specs.Nodes.{declared_nodes}
 use Rattle.hs_faults.specs.Numbers.{data_param, data_params, number_at}
 use Rattle.hs_faults.specs.ParamNodes.{data_faults, is_out, object_faults}
 use Rattle.hs_faults.specs.StatementFaults.{attribute_of, can_read, hidden_read, is_visible, readable, rule_scope, visible_node}
-use Rattle.hs_check.specs.Elements.{node_meant, nodes_in}
-use Rattle.hs_check.specs.Parameters.{class_meant, direction_meant, kind_meant, param_meant, params_meant}
+use Rattle.hs_check.specs.Elements.{nodes_in}
+use Rattle.hs_check.specs.Parameters.{class_meant, direction_meant, param_meant, params_meant}
 use Rattle.hs_check.proofs.Bounds.{is_few}
 use Rattle.hs_check.proofs.Edges.{by_class}
 use Rattle.hs_check.proofs.Filters.{find_here}

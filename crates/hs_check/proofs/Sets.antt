@@ -1,5 +1,5 @@
 -- The sets of a part of a rule: each fits, and no slot is set twice.
-use Rattle.std.proofs.Common.{ℕ, zero, suc, ◌<◌, ◌≤◌, ◌≡◌, ◌&&◌, ◌||◌, List, [], ◌∷◌, Bool, true, false, not, length, take, slice_get, Some, is_some, refl, ap, sym, ◌∙◌, subst}
+use Rattle.std.proofs.Common.{ℕ, zero, suc, ◌<◌, ◌≤◌, ◌≡◌, ◌&&◌, ◌||◌, List, [], ◌∷◌, Bool, true, false, not, length, take, slice_get, Some, refl, ap, sym, ◌∙◌, subst}
 use Rattle.std.proofs.lemmas.Bool.{and_from, false≢true, or_left, or_right}
 use Rattle.std.proofs.lemmas.List.Folds.{list_any-append}
 use Rattle.std.proofs.lemmas.Option.{none-some, same_Some}
@@ -13,11 +13,10 @@ use Rattle.hs_types.specs.declared.meta.Metamodel.{Metamodel}
 use Rattle.hs_types.specs.declared.rule.PatternNode.{PatternNode}
 use Rattle.hs_types.specs.declared.rule.SetItem.{SetItem}
 use Rattle.hs_expr.specs.Lists.{has, same_text}
-use Rattle.hs_types.specs.Metamodel.{attributes_of, features_of, kind_of_type, type_of}
+use Rattle.hs_types.specs.Metamodel.{attributes_of, kind_of_type, type_of}
 use Rattle.hs_types.specs.Pattern.{is_drop}
 use Rattle.hs_types.specs.RuleForm.{SetFits, SetOnce}
 use Rattle.hs_faults.specs.declared.nodes.BlockId.{BlockId}
-use Rattle.hs_faults.specs.Names.{is_named}
 use Rattle.hs_faults.specs.Nodes.{declared_nodes}
 use Rattle.hs_faults.specs.Numbers.{data_params}
 use Rattle.hs_faults.specs.Statements.{Statement, statements}
@@ -25,7 +24,7 @@ use Rattle.hs_faults.specs.StatementFaults.{Slot, is_deleted, is_set_before, slo
 use Rattle.hs_faults.specs.Marks.{mark_meant}
 use Rattle.hs_check.specs.Elements.{node_meant, node_number}
 use Rattle.hs_check.specs.Expressions.{set_in, set_meant, sets_in}
-use Rattle.hs_check.specs.Parameters.{class_meant, params_meant}
+use Rattle.hs_check.specs.Parameters.{class_meant}
 use Rattle.hs_check.proofs.PartForms.{IsRight, names_in, visible_nodes, scope_in}
 use Rattle.hs_check.proofs.ExprKinds.{IsKnown}
 use Rattle.hs_check.proofs.Edges.{node_at_spot, number_at_spot}
@@ -34,7 +33,7 @@ use Rattle.hs_check.proofs.Visibility.{Opens, Spot}
 use Rattle.hs_check.proofs.Filters.{All-filter_map, EachPair-filter_map}
 use Rattle.hs_check.proofs.Scopes.{agree}
 use Rattle.hs_check.proofs.NoFaults.{Clean, SoundSet, sound_set}
-use Rattle.hs_expr.proofs.Items.{found-has, has-kept, slice_get-take, same_text-from}
+use Rattle.hs_expr.proofs.Items.{slice_get-take, same_text-from}
 
 stays_is : (mark : WrittenMark) → is_deleted mark ≡ false → not (is_drop (mark_meant mark)) ≡ true
 stays_is written.Preserve e = refl

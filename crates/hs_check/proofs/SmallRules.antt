@@ -1,9 +1,9 @@
 -- A rule without faults keeps the limits of rules.
-use Rattle.std.proofs.Common.{ℕ, zero, suc, ◌≤◌, ◌≡◌, ◌&&◌, List, [], ◌∷◌, Bool, true, eqb, length, slice_get, Some, ap, sym, ◌∙◌, subst, arith}
+use Rattle.std.proofs.Common.{ℕ, ◌≤◌, ◌≡◌, ◌&&◌, List, [], true, eqb, length, slice_get, Some, ap, sym, ◌∙◌, subst, arith}
 use Rattle.std.proofs.lemmas.Bool.{and_from, and_parts, eqb-true, leb-true}
 use Rattle.std.proofs.lemmas.List.{length-map}
 use Rattle.std.proofs.lemmas.List.Elements.{All-map}
-use Rattle.std.specs.List.{All, filter, list_all}
+use Rattle.std.specs.List.{All, filter}
 use Rattle.hs_expr.specs.declared.Expr.{Expr}
 use Rattle.hs_expr.specs.Evaluation.{nesting}
 use Rattle.hs_expr.specs.Verdict.{each}
@@ -25,7 +25,7 @@ use Rattle.hs_faults.specs.Statements.{Statement, Edge, statements}
 use Rattle.hs_faults.specs.StatementFaults.{same_block}
 use Rattle.hs_check.specs.Elements.{edge_in, edges_of_part, node_number, nodes_in}
 use Rattle.hs_check.specs.Expressions.{set_in, sets_in, where_in, wheres_in}
-use Rattle.hs_check.specs.Parameters.{class_meant, param_meant, params_meant}
+use Rattle.hs_check.specs.Parameters.{class_meant, param_meant}
 use Rattle.hs_check.specs.Rules.{forbid_at, multi_at, multi_meant, part_meant, require_at, rule_meant, rule_contents}
 use Rattle.hs_check.proofs.Params.{itself}
 use Rattle.hs_check.proofs.Bounds.{block_opens, few_in, few_nodes, is_few, kernel_opens}
