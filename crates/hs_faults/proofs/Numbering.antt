@@ -1,5 +1,5 @@
 -- Nodes that are counted part by part, and numbered.
-use Rattle.std.proofs.Common.{ℕ, ◌+◌, ◌<◌, ◌≡◌, drop, take, get_or, ◌++◌, ◌∷◌, [], List, Bool, true, false, cond, length, min, eqb, Option, Some, None, refl, sym, ap, subst, ◌∙◌, inl, inr, arith}
+use Rattle.std.proofs.Common.{ℕ, ◌+◌, ◌<◌, ◌≡◌, drop, take, get_or, ◌++◌, ◌∷◌, [], List, Bool, true, false, cond, length, min, Option, Some, refl, sym, ap, subst, ◌∙◌, inl, inr, arith}
 use Rattle.std.proofs.lemmas.Bool.{cases_Bool, eqb-true, false≢true}
 use Rattle.std.proofs.lemmas.List.{append_assoc, drop_more, take_more}
 use Rattle.hs_expr.specs.Verdict.{each_from}

@@ -19,11 +19,7 @@ use std::alloc::Global;
 
 /// The first fault of the parameters, each by itself.
 #[tactic(auto, using(hs_expr::proofs::Verdicts::each_steps))]
-pub fn check_params(
-    alloc: Global,
-    meta: &Meta,
-    params: &[Param],
-) -> Result<(), Failure<RuleFault>>
+pub fn check_params(alloc: Global, meta: &Meta, params: &[Param]) -> Result<(), Failure<RuleFault>>
     ensures { Gives result (verdict (spec.faults_of_params meta.now params.now)) }
 {
     let mut known = NamesSeen::new(alloc);

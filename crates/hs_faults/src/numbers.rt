@@ -53,7 +53,11 @@ fn add_numbered(
     ensures counts { (before : List DeclaredNode) → spec.HasCounts counts.old before → OnOk result (spec.HasCounts counts.new (before ++ node ∷ [])) }
 {
     let mut node = node;
-    let first = if node.block == BlockId::Kernel { 0 } else { kernel };
+    let first = if node.block == BlockId::Kernel {
+        0
+    } else {
+        kernel
+    };
     node.number = first.saturating_add(count_one(counts, node.block)?);
     all.push(node)?;
     Ok(())

@@ -132,8 +132,7 @@ fn all_have_few(nodes: &[DeclaredNode], statements: &[Statement<'_>], blocks: &[
 fn has_few(nodes: &[DeclaredNode], statements: &[Statement<'_>], part: BlockId) -> bool
     ensures { result ≡ spec.has_few nodes.now statements.now part }
 {
-    count_in(nodes, part) <= MAX_PATTERN_NODES
-        && count_edges(statements, part) <= MAX_PATTERN_EDGES
+    count_in(nodes, part) <= MAX_PATTERN_NODES && count_edges(statements, part) <= MAX_PATTERN_EDGES
 }
 
 fn count_edges(statements: &[Statement<'_>], part: BlockId) -> usize

@@ -1,4 +1,4 @@
-use Rattle.std.proofs.Common.{◌≡◌, take, sym}
+use Rattle.std.proofs.Common.{take, sym}
 use Rattle.hs_expr.specs.Verdict.{verdict}
 use Rattle.hs_text.specs.declared.syntax.Param.{Param}
 use Rattle.hs_faults.proofs.Index.{known_next}

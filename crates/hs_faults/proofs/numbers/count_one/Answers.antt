@@ -1,4 +1,4 @@
-use Rattle.std.proofs.Common.{◌≡◌, ◌∙◌, ℕ, Some, rules, sym, ap, subst}
+use Rattle.std.proofs.Common.{◌∙◌, sym, ap}
 use Rattle.std.specs.Option.{unwrap_or}
 use Rattle.hs_faults.proofs.Numbering.{count_there, counts_more}
 use Rattle.hs_faults.specs.Numbers as spec

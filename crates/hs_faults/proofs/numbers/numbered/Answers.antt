@@ -1,4 +1,4 @@
-use Rattle.std.proofs.Common.{ℕ, drop, rules, ◌+◌, ◌<◌, ◌≡◌, ◌∙◌, ◌∷◌, ◌++◌, [], List, ap, sym, subst, length, take, arith}
+use Rattle.std.proofs.Common.{drop, rules, ◌+◌, ◌<◌, ◌≡◌, ◌∙◌, ◌∷◌, [], ap, sym, subst, length, take, arith}
 use Rattle.std.proofs.lemmas.List.{length_push}
 use Rattle.std.specs.Vec.Iter.{into_iter_items}
 use Rattle.hs_faults.specs.Numbers.{HasCounts, number_after, with_number}
