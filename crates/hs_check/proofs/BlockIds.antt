@@ -19,7 +19,7 @@ use Rattle.hs_faults.specs.declared.nodes.BlockId.{BlockId}
 use Rattle.hs_faults.specs.declared.nodes.BlockId.TheVariants.{Kernel, Pattern, Multi}
 use Rattle.hs_faults.specs.Sizes.{block_of, is_multi, is_pattern}
 use Rattle.hs_faults.specs.Nodes.{declared_nodes, node_of_element, node_of_simple, nodes_of_item, written_nodes}
-use Rattle.hs_faults.specs.Numbers.{number_after, with_number}
+use Rattle.hs_faults.specs.Numbers.{number_of_node, with_number}
 use Rattle.hs_faults.specs.Statements.{Statement, Edge, Set, Where, statement_of_element, statement_of_simple, statements, statements_of_item}
 use Rattle.hs_faults.specs.StatementFaults.{same_block}
 use Rattle.hs_check.specs.Rules.{forbid_at, multi_at, require_at}
@@ -262,8 +262,8 @@ written_keep items = All-each_from KeepsNode nodes_of_item 0 items (λ i x here.
 pub nodes_keep : (items : List Item) → All KeepsNode (declared_nodes items)
 nodes_keep items =
     let nodes = written_nodes items in
-    All-each_from KeepsNode (λ i node. with_number (number_after nodes (take i nodes) node) node ∷ []) 0 nodes (λ i node at.
-    All-cons KeepsNode (with_number (number_after nodes (take (0 + i) nodes) node) node) [] (All-at KeepsNode nodes i node (written_keep items) at) (All-nil KeepsNode))
+    All-each_from KeepsNode (λ i node. with_number (number_of_node nodes (take i nodes) node) node ∷ []) 0 nodes (λ i node at.
+    All-cons KeepsNode (with_number (number_of_node nodes (take (0 + i) nodes) node) node) [] (All-at KeepsNode nodes i node (written_keep items) at) (All-nil KeepsNode))
 
 -- The edge is preserved, where it is one of a forbid or require block.
 abbrev pub KeepsEdge : Statement → Type 0

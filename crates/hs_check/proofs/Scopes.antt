@@ -27,7 +27,7 @@ use Rattle.hs_faults.specs.declared.nodes.BlockId.TheVariants as home
 use Rattle.hs_faults.specs.declared.nodes.DeclaredNode.{DeclaredNode}
 use Rattle.hs_faults.specs.Marks.{mark_meant}
 use Rattle.hs_faults.specs.Named.{first_named}
-use Rattle.hs_faults.specs.Names.{as_attribute, attribute_named, data_named, feature_named, node_named}
+use Rattle.hs_faults.specs.Names.{as_attribute, class_attribute, data_named, feature_named, node_named}
 use Rattle.hs_faults.specs.Nodes.{declared_nodes}
 use Rattle.hs_faults.specs.Numbers.{data_param, data_params, number_at}
 use Rattle.hs_faults.specs.ParamNodes.{data_faults, is_out, object_faults}
@@ -118,7 +118,7 @@ slots_agree : (m : Metamodel) (ds : List DeclaredNode) (part : BlockId) (before 
 slots_agree m ds part before opens owner name d n a named is of_node =
     let seen : visible_node ds part owner ≡ Some d = ap (option_and_then (λ (node : DeclaredNode). if is_visible part node then Some node else None)) named ∙ ap (λ (b : Bool). if b then Some d else None) is.visible in
     let class : ℕ = class_meant m d.class.text in
-    let f = came (feature_named m class name) (as_attribute m) a (by_class m d (λ c. attribute_named m c name) class a (opens.found owner d seen).class of_node) in
+    let f = came (feature_named m class name) (as_attribute m) a (by_class m d (λ c. class_attribute m c name) class a (opens.found owner d seen).class of_node) in
     let type = attribute_is m f.0 a f.2 in
     let there : has (attributes_of m class) a.0 ≡ true = has_attribute m class name a (f.1 ∙ ap (λ (i : ℕ). Some i) type.0) type.1 in
     ap (option_and_then (λ (node : PatternNode). if is_left node.mark && has (attributes_of m node.class) a.0 then option_map kind_of_type (type_of m a.0) else None)) (ap (slice_get (before ++ nodes_in m ds part)) (sym is.number) ∙ opens.numbered owner d seen)

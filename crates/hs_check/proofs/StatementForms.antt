@@ -24,7 +24,7 @@ use Rattle.hs_expr.specs.Lists.{has, same_text}
 use Rattle.hs_types.specs.Metamodel.{attributes_of, feature_at, features_of, kind_of_type, type_of}
 use Rattle.hs_faults.specs.declared.nodes.DeclaredNode.{DeclaredNode}
 use Rattle.hs_faults.specs.declared.nodes.BlockId.{BlockId}
-use Rattle.hs_faults.specs.Names.{as_attribute, attribute_named, feature_named, is_named}
+use Rattle.hs_faults.specs.Names.{as_attribute, class_attribute, feature_named, is_named}
 use Rattle.hs_faults.specs.Statements.{Statement, Edge, Set, Where}
 use Rattle.hs_faults.specs.StatementFaults.{attribute_of, same_block}
 use Rattle.hs_faults.specs.Marks.{mark_meant}
@@ -142,7 +142,7 @@ has_attribute m class name a named kind = has-kept (λ f. is_some (type_of m f))
 pub attribute_spot : (m : Metamodel) (nodes : List PatternNode) (name attribute : List ℕ) (d : DeclaredNode) (a : ℕ × Kind) → Spot m nodes name d → attribute_of m d attribute ≡ Some a → AttributeSpot m nodes name attribute d a
 attribute_spot m nodes name attribute d a s e =
     let class : ℕ = class_meant m d.class.text in
-    let f = came (feature_named m class attribute) (as_attribute m) a (by_class m d (λ c. attribute_named m c attribute) class a s.class e) in
+    let f = came (feature_named m class attribute) (as_attribute m) a (by_class m d (λ c. class_attribute m c attribute) class a s.class e) in
     let is = attribute_is m f.0 a f.2 in
     record {
       named = f.1 ∙ ap (λ (n : ℕ). Some n) is.0;

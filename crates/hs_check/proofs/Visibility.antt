@@ -13,7 +13,7 @@ use Rattle.hs_faults.specs.declared.nodes.DeclaredNode.{DeclaredNode}
 use Rattle.hs_faults.specs.declared.nodes.BlockId.{BlockId}
 use Rattle.hs_faults.specs.declared.nodes.BlockId.TheVariants as home
 use Rattle.hs_faults.specs.Names.{class_number, node_named, as_number}
-use Rattle.hs_faults.specs.Numbers.{count_in, first_number, number_after, number_at}
+use Rattle.hs_faults.specs.Numbers.{count_in, first_number, number_of_node, number_at}
 use Rattle.hs_faults.specs.ParamNodes.{is_kernel}
 use Rattle.hs_faults.specs.StatementFaults.{visible_node, same_block}
 use Rattle.hs_check.specs.Elements.{node_found, node_meant, nodes_in}
@@ -103,7 +103,7 @@ kernel_home (home.Multi i) = refl
 
 -- The node's number is that of its place among the nodes of its part, which come after the kernel's.
 abbrev pub AreNumbered : List DeclaredNode → Type 0
-AreNumbered ds = (k : ℕ) (d : DeclaredNode) → slice_get ds k ≡ Some d → d.number ≡ number_after ds (take k ds) d
+AreNumbered ds = (k : ℕ) (d : DeclaredNode) → slice_get ds k ≡ Some d → d.number ≡ number_of_node ds (take k ds) d
 
 -- What is made of an item stands where as many are counted before it.
 pub counted_at : {A B : Type 0} (p : A → Bool) (f : A → B) (xs : List A) (k : ℕ) (x : A) → slice_get xs k ≡ Some x → p x ≡ true → slice_get (map f (filter p xs)) (length (filter p (take k xs))) ≡ Some (f x)

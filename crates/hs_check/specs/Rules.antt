@@ -108,11 +108,11 @@ rule_with m rule contents kernel multis = record {
 abbrev pub rule_around : Metamodel → WrittenRule → RuleContents → Block → Rule
 rule_around m rule contents kernel = rule_with m rule contents kernel (map (multi_meant m contents kernel.nodes) (each multi_at rule.items))
 
-abbrev pub rule_of : Metamodel → WrittenRule → RuleContents → Rule
-rule_of m rule contents = rule_around m rule contents (block_meant m contents [] home.Kernel)
+abbrev pub rule_from : Metamodel → WrittenRule → RuleContents → Rule
+rule_from m rule contents = rule_around m rule contents (block_meant m contents [] home.Kernel)
 
 abbrev pub rule_meant : Metamodel → WrittenRule → Rule
-rule_meant m rule = rule_of m rule (rule_contents rule)
+rule_meant m rule = rule_from m rule (rule_contents rule)
 
 -- The rules of a text, in written order.
 abbrev pub rules_meant : Metamodel → List Definition → List Rule

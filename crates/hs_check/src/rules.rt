@@ -214,17 +214,17 @@ fn rule_meant(alloc: Global, meta: &Meta, rule: &WrittenRule) -> Result<Rule, Al
     let params = data_params(alloc, rule.params.as_slice())?;
     let nodes = declared_nodes(alloc, rule.items.as_slice())?;
     let contents = rule_contents(alloc, rule, params.as_slice(), nodes.as_slice())?;
-    rule_of(alloc, meta, rule, &contents)
+    rule_from(alloc, meta, rule, &contents)
 }
 
 /// The rule that declares and says this.
-fn rule_of(
+fn rule_from(
     alloc: Global,
     meta: &Meta,
     rule: &WrittenRule,
     contents: &RuleContents<'_>,
 ) -> Result<Rule, AllocError>
-    ensures { IfOk result (λ meant. meant ≡ spec.rule_of meta.now rule.now contents.now) }
+    ensures { IfOk result (λ meant. meant ≡ spec.rule_from meta.now rule.now contents.now) }
 {
     let kernel = block_meant(alloc, meta, contents, &[], BlockId::Kernel)?;
     rule_around(alloc, meta, rule, contents, kernel)

@@ -24,16 +24,17 @@ eq_is (Multi i) Kernel = refl
 eq_is (Multi i) (Pattern j) = refl
 eq_is (Multi i) (Multi j) = refl
 
-one_block : (a b : BlockId) → same_block a b ≡ true → a ≡ b
-one_block Kernel Kernel e = refl
-one_block Kernel (Pattern j) e = cc
-one_block Kernel (Multi j) e = cc
-one_block (Pattern i) Kernel e = cc
-one_block (Pattern i) (Pattern j) e = ap Pattern (eqb-true i j e)
-one_block (Pattern i) (Multi j) e = cc
-one_block (Multi i) Kernel e = cc
-one_block (Multi i) (Pattern j) e = cc
-one_block (Multi i) (Multi j) e = ap Multi (eqb-true i j e)
+-- What holds of a part of a rule holds of the same part.
+same_part : (P : BlockId → Type 0) (a b : BlockId) → same_block a b ≡ true → P a → P b
+same_part P Kernel Kernel e x = x
+same_part P (Pattern i) (Pattern j) e x = subst (λ k. P (Pattern k)) (eqb-true i j e) x
+same_part P (Multi i) (Multi j) e x = subst (λ k. P (Multi k)) (eqb-true i j e) x
+same_part P Kernel (Pattern j) e x = absurd (false≢true e)
+same_part P Kernel (Multi j) e x = absurd (false≢true e)
+same_part P (Pattern i) Kernel e x = absurd (false≢true e)
+same_part P (Pattern i) (Multi j) e x = absurd (false≢true e)
+same_part P (Multi i) Kernel e x = absurd (false≢true e)
+same_part P (Multi i) (Pattern j) e x = absurd (false≢true e)
 
 looked_up : {S : Type 0} (counts : IndexMap BlockId ℕ S) (block : BlockId) → get_by (same_block block) counts ≡ get eq-value.it counts block
 looked_up counts block = ap (λ (test : BlockId → Bool). get_by test counts) (λ i other. sym (eq_is block other) i)
@@ -68,7 +69,7 @@ counts_more old new nodes node count has is updates = λ block.
     ap (λ (o : Option ℕ). unwrap_or o 0) (looked_up new block ∙ updates block)
     ∙ ap (λ b. unwrap_or (cond b (Some (min (count + 1) 65535)) (get eq-value.it old block)) 0) (eq_is node.block block)
     ∙ elim (cases_Bool (same_block block node.block)) [
-      | inl yes_it ↦ here block (one_block block node.block yes_it) yes_it
+      | inl yes_it ↦ here block (same_part (λ b. block ≡ b) block node.block yes_it refl) yes_it
       | inr not_it ↦
           ap (λ b. unwrap_or (cond b (Some (min (count + 1) 65535)) (get eq-value.it old block)) 0) (other_way block not_it)
           ∙ count_there old nodes block has
@@ -77,7 +78,9 @@ counts_more old new nodes node count has is updates = λ block.
   where
     other_way : (block : BlockId) → same_block block node.block ≡ false → same_block node.block block ≡ false
     other_way block e = elim (cases_Bool (same_block node.block block)) [
-      | inl yes_it ↦ absurd (false≢true (sym e ∙ subst (λ (b : BlockId). same_block b node.block ≡ true) (one_block node.block block yes_it) (subst (λ (b : BlockId). same_block node.block b ≡ true) (sym (one_block node.block block yes_it)) yes_it)))
+      | inl yes_it ↦
+          let at : node.block ≡ block = same_part (λ b. node.block ≡ b) node.block block yes_it refl in
+          absurd (false≢true (sym e ∙ subst (λ (b : BlockId). same_block b node.block ≡ true) at (subst (λ (b : BlockId). same_block node.block b ≡ true) (sym at) yes_it)))
       | inr not_it ↦ not_it
     ]
 

@@ -52,8 +52,8 @@ abbrev pub as_attribute : Metamodel → ℕ → Option (ℕ × Kind)
 as_attribute m f = option_map (λ type. (f, kind_of_type type)) (type_of m f)
 
 -- The number and the kind of the attribute of this name, of this class.
-abbrev pub attribute_named : Metamodel → ℕ → List ℕ → Option (ℕ × Kind)
-attribute_named m c name = option_and_then (as_attribute m) (feature_named m c name)
+abbrev pub class_attribute : Metamodel → ℕ → List ℕ → Option (ℕ × Kind)
+class_attribute m c name = option_and_then (as_attribute m) (feature_named m c name)
 
 -- The first node of this name.
 abbrev pub node_named : List DeclaredNode → List ℕ → Option DeclaredNode

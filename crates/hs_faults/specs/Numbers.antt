@@ -35,8 +35,8 @@ abbrev pub first_number : List DeclaredNode → BlockId → ℕ
 first_number nodes block = if is_kernel block then 0 else count_in nodes Kernel
 
 -- The number of a node of these, after those before it: it counts those of its own part.
-abbrev pub number_after : List DeclaredNode → List DeclaredNode → DeclaredNode → ℕ
-number_after nodes before node =
+abbrev pub number_of_node : List DeclaredNode → List DeclaredNode → DeclaredNode → ℕ
+number_of_node nodes before node =
     number_at (first_number nodes node.block + count_in before node.block)
 
 abbrev pub with_number : ℕ → DeclaredNode → DeclaredNode
@@ -49,7 +49,7 @@ with_number n node = record {
 }
 
 abbrev pub numbered : List DeclaredNode → List DeclaredNode
-numbered nodes = each (λ i node. with_number (number_after nodes (take i nodes) node) node ∷ []) nodes
+numbered nodes = each (λ i node. with_number (number_of_node nodes (take i nodes) node) node ∷ []) nodes
 
 -- The map has the counts of these nodes, as far as they are numbers.
 abbrev pub HasCounts : {S : Type 0} → IndexMap BlockId ℕ S → List DeclaredNode → Type 0

@@ -33,7 +33,7 @@ use Rattle.hs_faults.specs.declared.fault.RuleFaultKind.{RuleFaultKind}
 use Rattle.hs_faults.specs.declared.fault.RuleFaultKind.TheVariants as kind
 use Rattle.hs_faults.specs.Marks.{mark_meant}
 use Rattle.hs_faults.specs.Named.{first_named}
-use Rattle.hs_faults.specs.Names.{attribute_named, class_number, node_named, target_named}
+use Rattle.hs_faults.specs.Names.{class_attribute, class_number, node_named, target_named}
 use Rattle.hs_faults.specs.Places.{fault_at}
 use Rattle.hs_faults.specs.ParamNodes.{is_kernel}
 use Rattle.hs_faults.specs.Statements.{Statement, Edge, Set, Where}
@@ -77,7 +77,7 @@ target_from m node name = option_and_then (λ c. target_named m c name) (node_cl
 
 -- The number and the kind of the node's attribute of this name.
 abbrev pub attribute_of : Metamodel → DeclaredNode → List ℕ → Option (ℕ × Kind)
-attribute_of m node name = option_and_then (λ c. attribute_named m c name) (node_class m node)
+attribute_of m node name = option_and_then (λ c. class_attribute m c name) (node_class m node)
 
 -- An edge joins nodes that are open to it, by a reference of the source's class that leads to the target's, and that its mark lets it join.
 unfoldable pub edge_checked : Metamodel → List DeclaredNode → BlockId → Mark → Name → Name → Name → Result (Unit {0}) RuleFault
@@ -88,8 +88,8 @@ edge_checked m nodes block mark source target reference = do
   demand (is_of_class m class to && may_join block mark from.mark && may_join block mark to.mark) (fault_at reference.span kind.BadEnds)
 
 -- The number and the kind of the data parameter of this name.
-abbrev pub param_read : List DataParam → List ℕ → Option (ℕ × Kind)
-param_read params name =
+abbrev pub data_param_named : List DataParam → List ℕ → Option (ℕ × Kind)
+data_param_named params name =
     option_map (λ param. (param.number, param.kind)) (first_named (λ param. param.name) params name)
 
 -- A node that may not be named is known as one that can't be read where it is of a forbid or require block, and isn't known where it is of another multi block.
@@ -109,7 +109,7 @@ readable block node = option_map (λ left. (node.number, left)) (can_read block 
 -- What the names of an expression stand for, from this part of the rule.
 abbrev pub rule_scope : Metamodel → List DataParam → List DeclaredNode → BlockId → Names
 rule_scope m params nodes block = record {
-  param = param_read params;
+  param = data_param_named params;
   node = λ name. option_and_then (readable block) (node_named nodes name);
   attribute = λ owner name. option_and_then (λ node. attribute_of m node name) (node_named nodes owner);
 }

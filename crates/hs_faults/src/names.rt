@@ -105,8 +105,8 @@ fn as_attribute(meta: &Meta, feature: FeatureNo) -> Option<(FeatureNo, Kind)>
 }
 
 /// The number and the kind of the attribute of this name, of this class.
-pub fn attribute_named(meta: &Meta, class: ClassNo, name: &str) -> Option<(FeatureNo, Kind)>
-    ensures { result ≡ spec.attribute_named meta.now class name.now }
+pub fn class_attribute(meta: &Meta, class: ClassNo, name: &str) -> Option<(FeatureNo, Kind)>
+    ensures { result ≡ spec.class_attribute meta.now class name.now }
 {
     let feature = feature_named(meta, class, name)?;
     as_attribute(meta, feature)

@@ -49,7 +49,7 @@ fn add_numbered(
     node: DeclaredNode,
 ) -> Result<(), AllocError>
     ensures all { (nodes before : List DeclaredNode) → kernel ≡ spec.number_at (spec.count_in nodes BlockId.Kernel) → spec.HasCounts counts.old before
-        → OnOk result (all.new ≡ all.old ++ spec.with_number (spec.number_after nodes before node) node ∷ []) }
+        → OnOk result (all.new ≡ all.old ++ spec.with_number (spec.number_of_node nodes before node) node ∷ []) }
     ensures counts { (before : List DeclaredNode) → spec.HasCounts counts.old before → OnOk result (spec.HasCounts counts.new (before ++ node ∷ [])) }
 {
     let mut node = node;

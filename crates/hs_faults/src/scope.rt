@@ -8,7 +8,7 @@ ghost use Rattle.hs_faults.specs.StatementFaults as spec;
 use crate::edges::{is_visible, node_class};
 use crate::fault::{RuleFault, RuleFaultKind, fault_at};
 use crate::name_index::{DataIndex, NodeIndex};
-use crate::names::attribute_named;
+use crate::names::class_attribute;
 use crate::nodes::{BlockId, DeclaredNode};
 use hs_eval::{Checked, ExprFault, Scope, Wrong, check};
 use hs_expr::{Failure, Kind, NameExpr, Text, fault_as};
@@ -51,7 +51,7 @@ pub fn attribute_of(meta: &Meta, node: &DeclaredNode, name: &str) -> Option<(Fea
     ensures { result ≡ spec.attribute_of meta.now node.now name.now }
 {
     let class = node_class(meta, node)?;
-    attribute_named(meta, class, name)
+    class_attribute(meta, class, name)
 }
 
 /// The node's number, and whether it can be read from this part of the rule.

@@ -1,7 +1,7 @@
 use Rattle.std.proofs.Common.{drop, rules, ◌+◌, ◌<◌, ◌≡◌, ◌∙◌, ◌∷◌, [], ap, sym, subst, length, take, arith}
 use Rattle.std.proofs.lemmas.List.{length_push}
 use Rattle.std.specs.Vec.Iter.{into_iter_items}
-use Rattle.hs_faults.specs.Numbers.{HasCounts, number_after, with_number}
+use Rattle.hs_faults.specs.Numbers.{HasCounts, number_of_node, with_number}
 use Rattle.hs_faults.specs.declared.nodes.DeclaredNode.{DeclaredNode}
 use Rattle.hs_faults.proofs.Numbering.{made_more, next_node}
 use Rattle.hs_faults.proofs.numbers.numbered.Goals as goal
@@ -18,7 +18,7 @@ loop-node-preserved c =
     let put = c.in_ok-add_numbered.ensures.all nodes (take (length all) nodes) (search rules) c.loop-node.invariant.counted in
     let more : length c.add_numbered.new.all ≡ length all + 1 = ap length put ∙ length_push all _ in
     record {
-      whole = made_more (λ i (node : DeclaredNode). with_number (number_after nodes (take i nodes) node) node ∷ []) all _ c.add_numbered.new.all (into_iter_items c.loop-node.node-iterator) (into_iter_items c.next.new.self) c.in-Some.node (length all) (length c.add_numbered.new.all) here more c.loop-node.invariant.whole put;
+      whole = made_more (λ i (node : DeclaredNode). with_number (number_of_node nodes (take i nodes) node) node ∷ []) all _ c.add_numbered.new.all (into_iter_items c.loop-node.node-iterator) (into_iter_items c.next.new.self) c.in-Some.node (length all) (length c.add_numbered.new.all) here more c.loop-node.invariant.whole put;
       counted = subst (HasCounts c.add_numbered.new.counts) (sym (ap (λ n. take n nodes) more ∙ next.0)) (c.in_ok-add_numbered.ensures.counts (take (length all) nodes) c.loop-node.invariant.counted);
       rest = next.1 ∙ ap (λ n. drop n nodes) (sym more);
       count = let e = c.loop-node.invariant.count in omega arith;
