@@ -16,7 +16,6 @@ use Rattle.hs_text.specs.declared.syntax.Mark.TheVariants as written
 use Rattle.hs_text.specs.declared.syntax.Param.{Param as WrittenParam}
 use Rattle.hs_text.specs.declared.syntax.Rule.{Rule as WrittenRule}
 use Rattle.hs_types.specs.declared.meta.Metamodel.{Metamodel}
-use Rattle.hs_types.specs.declared.rule.Direction.TheVariants.{In}
 use Rattle.hs_types.specs.declared.rule.Multi.{Multi}
 use Rattle.hs_types.specs.declared.rule.Param.{Param}
 use Rattle.hs_types.specs.declared.rule.Part.{Part}
@@ -39,6 +38,7 @@ use Rattle.hs_check.proofs.Uniqueness.{HaveOwn, names_apart, one_place}
 use Rattle.hs_check.proofs.BlockIds.{Unlike, all_homes, homes_unlike}
 use Rattle.hs_check.proofs.Visibility.{called, found_in, homes_same, kernel_home, node_in, node_made, nodes_in-picked}
 use Rattle.hs_check.proofs.Parts.{kernel_of}
+use Rattle.hs_check.proofs.Scopes.{in_is}
 use Rattle.hs_check.proofs.Filters.{All-filter_map, EachPair-filter_map, EachPair-map}
 use Rattle.hs_check.proofs.NoFaults.{Clean, yes_test}
 use Rattle.hs_expr.proofs.Items.{All-at, All-from, find-same, text_same}
@@ -54,10 +54,6 @@ side_is given.In written.Delete = refl
 side_is given.Out written.Preserve = refl
 side_is given.Out written.Create = refl
 side_is given.Out written.Delete = refl
-
-pub in_is : (direction : WrittenDirection) → is_out direction ≡ false → direction_meant direction ≡ In
-in_is given.In e = refl
-in_is given.Out e = absurd (false≢true (sym e))
 
 object_fits : (m : Metamodel) (rule : WrittenRule) (p : WrittenParam) → object_faults (declared_nodes rule.items) p ≡ [] → ParamFits (kernel_of m rule) (param_meant m p) (Object (class_meant m p.kind.text))
 object_fits m rule p e =

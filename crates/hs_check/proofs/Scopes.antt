@@ -67,13 +67,13 @@ all_given params = All-each_from (IsGiven params) data_param 0 params (λ i para
     go i param at (Some k) is = All-cons (IsGiven params) (record { name = param.name; number = number_at (0 + i); kind = k }) []
         (record { place = i; param = param; at = at; number = ap number_at (let e : 0 + i ≡ i = omega arith in e); kind = is }) (All-nil (IsGiven params))
 
+pub in_is : (d : WrittenDirection) → is_out d ≡ false → direction_meant d ≡ In
+in_is direction.In e = refl
+in_is direction.Out e = absurd (false≢true (sym e))
+
 -- Data is given.
 data_in : (m : Metamodel) (rule : Rule) → Clean m rule → (i : ℕ) (p : WrittenParam) (k : Kind) → slice_get rule.params i ≡ Some p → data_named p.kind.text ≡ Some k → direction_meant p.direction ≡ In
-data_in m rule clean i p k at is_data = go p.direction (no_test (is_out p.direction) _ (sym (ap (λ (o : Option Kind). if is_some o then data_faults p else object_faults (declared_nodes rule.items) p) is_data) ∙ clean.params_fit i p at))
-  where
-    go : (d : WrittenDirection) → is_out d ≡ false → direction_meant d ≡ In
-    go direction.In e = refl
-    go direction.Out e = absurd (false≢true (sym e))
+data_in m rule clean i p k at is_data = in_is p.direction (no_test (is_out p.direction) _ (sym (ap (λ (o : Option Kind). if is_some o then data_faults p else object_faults (declared_nodes rule.items) p) is_data) ∙ clean.params_fit i p at))
 
 meant_at : (m : Metamodel) (params : List WrittenParam) (i : ℕ) (p : WrittenParam) → slice_get params i ≡ Some p → slice_get (params_meant m params) i ≡ Some (param_meant m p)
 meant_at m params i p at = slice_get-map (param_meant m) params i ∙ ap (option_map (param_meant m)) at
