@@ -38,7 +38,7 @@ use Rattle.hs_check.specs.Parameters.{class_meant, direction_meant, kind_meant, 
 use Rattle.hs_check.specs.Units.{atom_meant, bind_meant}
 use Rattle.hs_check.proofs.Uniqueness.{HaveOwn, names_apart}
 use Rattle.hs_check.proofs.Lookups.{came, tested}
-use Rattle.hs_check.proofs.Params.{in_is}
+use Rattle.hs_check.proofs.Scopes.{in_is}
 use Rattle.hs_check.proofs.Filters.{EachPair-from, EachPair-map, all_filtered, any_made, each_kept, some_within}
 use Rattle.hs_check.proofs.NoFaults.{kinds_same, yes_test}
 use Rattle.hs_expr.proofs.Items.{All-from, position_within}

@@ -1,5 +1,5 @@
 -- The blocks of a rule: they differ, and what stands in a forbid or require block is preserved.
-use Rattle.std.proofs.Common.{ℕ, suc, ◌+◌, ◌≡◌, inl, inr, ◌&&◌, ◌++◌, List, [], ◌∷◌, Bool, true, false, length, slice_get, Some, refl, ap, sym, ◌∙◌, arith}
+use Rattle.std.proofs.Common.{ℕ, suc, ◌+◌, ◌≡◌, inl, inr, ◌&&◌, ◌++◌, List, [], ◌∷◌, Bool, true, false, length, slice_get, Some, refl, ap, sym, ◌∙◌, arith, take}
 use Rattle.std.proofs.lemmas.Bool.{and_parts, cases_eq, false≢true, ne_eqb}
 use Rattle.std.proofs.lemmas.List.Elements.{All-append, All-cons, All-nil, All-weaker}
 use Rattle.std.proofs.lemmas.Option.{same_Some}
@@ -18,7 +18,8 @@ use Rattle.hs_faults.specs.declared.nodes.DeclaredNode.{DeclaredNode}
 use Rattle.hs_faults.specs.declared.nodes.BlockId.{BlockId}
 use Rattle.hs_faults.specs.declared.nodes.BlockId.TheVariants.{Kernel, Pattern, Multi}
 use Rattle.hs_faults.specs.Sizes.{block_of, is_multi, is_pattern}
-use Rattle.hs_faults.specs.Nodes.{declared_nodes, node_of_element, node_of_simple, nodes_of_item}
+use Rattle.hs_faults.specs.Nodes.{declared_nodes, node_of_element, node_of_simple, nodes_of_item, written_nodes}
+use Rattle.hs_faults.specs.Numbers.{number_of_node, with_number}
 use Rattle.hs_faults.specs.Statements.{Statement, Edge, Set, Where, statement_of_element, statement_of_simple, statements, statements_of_item}
 use Rattle.hs_faults.specs.StatementFaults.{same_block}
 use Rattle.hs_check.specs.Rules.{forbid_at, multi_at, require_at}
@@ -241,7 +242,7 @@ abbrev pub KeepsNode : DeclaredNode → Type 0
 KeepsNode d = is_pattern d.block ≡ true → d.mark ≡ Preserve
 
 element_keeps : (home : BlockId) (mark : Mark) → (is_pattern home ≡ true → mark ≡ Preserve) → (e : Element) → All KeepsNode (node_of_element home mark e)
-element_keeps home mark h (element.Node name class) = All-cons KeepsNode (record { name = name; class = class; mark = mark; block = home }) [] h (All-nil KeepsNode)
+element_keeps home mark h (element.Node name class) = All-cons KeepsNode (record { name = name; class = class; mark = mark; block = home; number = 0 }) [] h (All-nil KeepsNode)
 element_keeps home mark h (element.Edge source target reference) = All-nil KeepsNode
 
 simple_keeps : (home : BlockId) → is_pattern home ≡ false → (s : Simple) → All KeepsNode (node_of_simple home s)
@@ -249,14 +250,20 @@ simple_keeps home e (simple.Marked mark element) = element_keeps home mark (λ i
 simple_keeps home e (simple.Set node attribute value) = All-nil KeepsNode
 simple_keeps home e (simple.Where word test) = All-nil KeepsNode
 
-pub nodes_keep : (items : List Item) → All KeepsNode (declared_nodes items)
-nodes_keep items = All-each_from KeepsNode nodes_of_item 0 items (λ i x here. go (0 + i) x)
+written_keep : (items : List Item) → All KeepsNode (written_nodes items)
+written_keep items = All-each_from KeepsNode nodes_of_item 0 items (λ i x here. go (0 + i) x)
   where
     go : (i : ℕ) (x : Item) → All KeepsNode (nodes_of_item i x)
     go i (item.Simple s) = simple_keeps Kernel refl s
     go i (item.Forbid es) = All-flat_map KeepsNode (node_of_element (Pattern i) Preserve) es (element_keeps (Pattern i) Preserve (λ e. refl))
     go i (item.Require es) = All-flat_map KeepsNode (node_of_element (Pattern i) Preserve) es (element_keeps (Pattern i) Preserve (λ e. refl))
     go i (item.Multi ss) = All-flat_map KeepsNode (node_of_simple (Multi i)) ss (simple_keeps (Multi i) refl)
+
+pub nodes_keep : (items : List Item) → All KeepsNode (declared_nodes items)
+nodes_keep items =
+    let nodes = written_nodes items in
+    All-each_from KeepsNode (λ i node. with_number (number_of_node nodes (take i nodes) node) node ∷ []) 0 nodes (λ i node at.
+    All-cons KeepsNode (with_number (number_of_node nodes (take (0 + i) nodes) node) node) [] (All-at KeepsNode nodes i node (written_keep items) at) (All-nil KeepsNode))
 
 -- The edge is preserved, where it is one of a forbid or require block.
 abbrev pub KeepsEdge : Statement → Type 0

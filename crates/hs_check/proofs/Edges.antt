@@ -1,10 +1,9 @@
 -- Edges that a part of a rule means: they join nodes that they may join.
-use Rattle.std.proofs.Common.{ℕ, ◌≡◌, ◌++◌, List, Bool, true, slice_get, Option, Some, Ok, refl, ap, sym, ◌∙◌, eqb-true}
+use Rattle.std.proofs.Common.{ℕ, ◌≡◌, ◌++◌, List, Bool, true, slice_get, Option, Some, Ok, refl, ap, sym, ◌∙◌}
 use Rattle.std.specs.List.{position_or_len}
 use Rattle.std.specs.Option.{option_and_then, unwrap_or}
 use Rattle.hs_expr.specs.declared.Name.{Name}
 use Rattle.hs_text.specs.declared.syntax.Mark.{Mark as WrittenMark}
-use Rattle.hs_text.specs.declared.syntax.Mark.TheVariants as written
 use Rattle.hs_types.specs.declared.meta.Metamodel.{Metamodel}
 use Rattle.hs_types.specs.declared.rule.Mark.{Mark}
 use Rattle.hs_types.specs.declared.rule.PatternEdge.{PatternEdge}
@@ -18,7 +17,7 @@ use Rattle.hs_faults.specs.declared.nodes.DeclaredNode.{DeclaredNode}
 use Rattle.hs_faults.specs.declared.nodes.BlockId.{BlockId}
 use Rattle.hs_faults.specs.declared.nodes.BlockId.TheVariants as home
 use Rattle.hs_faults.specs.Names.{feature_named, is_named, target_named}
-use Rattle.hs_faults.specs.StatementFaults.{node_class, edge_checked, may_join, same_block, target_from}
+use Rattle.hs_faults.specs.StatementFaults.{node_class, edge_checked, may_join, target_from}
 use Rattle.hs_types.proofs.Conforming.{conforms_to}
 use Rattle.hs_faults.specs.Marks.{mark_meant}
 use Rattle.hs_check.specs.Elements.{edge_meant, feature_found, feature_number, node_meant, node_number, nodes_in}
@@ -38,17 +37,6 @@ end_is : (part : BlockId) (mark end : WrittenMark) → may_join part mark end �
 end_is home.Kernel mark end = refl
 end_is (home.Pattern i) mark end = refl
 end_is (home.Multi i) mark end = refl
-
-pub homes_same : (g h : BlockId) → same_block g h ≡ true → g ≡ h
-homes_same home.Kernel home.Kernel e = refl
-homes_same home.Kernel (home.Pattern j) e = cc
-homes_same home.Kernel (home.Multi j) e = cc
-homes_same (home.Pattern i) home.Kernel e = cc
-homes_same (home.Pattern i) (home.Pattern j) e = ap home.Pattern (eqb-true i j e)
-homes_same (home.Pattern i) (home.Multi j) e = cc
-homes_same (home.Multi i) home.Kernel e = cc
-homes_same (home.Multi i) (home.Pattern j) e = cc
-homes_same (home.Multi i) (home.Multi j) e = ap home.Multi (eqb-true i j e)
 
 -- Where the class of a node is known, so is what is found through it.
 pub by_class : {A : Type 0} (m : Metamodel) (d : DeclaredNode) (next : ℕ → Option A) (c : ℕ) (x : A) → node_class m d ≡ Some c → option_and_then next (node_class m d) ≡ Some x → next c ≡ Some x

@@ -1,4 +1,3 @@
-mod Attributes
 pub mod Filters
 pub mod NoFaults
 pub mod NoUnitFaults
@@ -23,7 +22,5 @@ pub mod Callees
 pub mod RuleForms
 pub mod UnitForms
 pub mod SetForms
-pub mod Agreement
-pub mod Numbers
 pub mod Counts
 pub mod Resolution

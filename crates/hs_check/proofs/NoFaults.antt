@@ -1,10 +1,9 @@
 -- What is so of a rule in which no fault is found.
-use Rattle.std.proofs.Common.{ℕ, zero, suc, ◌+◌, ◌≡◌, ◌++◌, List, [], ◌∷◌, Bool, true, false, not, ◌&&◌, is_some, length, nat_le, take, Option, Some, None, Result, Ok, Err, slice_get, refl, ap, sym, ◌∙◌, arith, zero-add, add-zero}
+use Rattle.std.proofs.Common.{ℕ, zero, suc, ◌≡◌, ◌++◌, List, [], ◌∷◌, Bool, true, false, not, ◌&&◌, is_some, length, nat_le, take, Option, Some, None, Result, Ok, Err, slice_get, refl, ap, sym, ◌∙◌}
 use Rattle.std.proofs.lemmas.Bool.{and_parts, not-false}
 use Rattle.std.proofs.lemmas.List.{append-nil, append_assoc}
 use Rattle.std.proofs.lemmas.Option.{none-some, same_Some}
 use Rattle.std.specs.List.{flat_map}
-use Rattle.std.specs.Option.{option_map_or}
 use Rattle.hs_expr.specs.declared.Kind.{Kind}
 use Rattle.hs_expr.specs.declared.Kind.TheVariants as sort
 use Rattle.hs_expr.specs.declared.Expr.{Expr}
@@ -12,7 +11,7 @@ use Rattle.hs_expr.specs.declared.Name.{Name}
 use Rattle.hs_expr.specs.declared.NameExpr.{NameExpr}
 use Rattle.hs_expr.specs.declared.Span.{Span}
 use Rattle.hs_expr.specs.Steps.{◌>>=◌, demand, needed}
-use Rattle.hs_expr.specs.Verdict.{each, each_from, fault_if}
+use Rattle.hs_expr.specs.Verdict.{fault_if}
 use Rattle.hs_eval.specs.Checking.{Names, check_tree}
 use Rattle.hs_eval.specs.declared.fault.ExprFault.{ExprFault}
 use Rattle.hs_text.specs.declared.syntax.Definition.{Definition}
@@ -22,6 +21,7 @@ use Rattle.hs_text.specs.declared.syntax.Param.{Param}
 use Rattle.hs_text.specs.declared.syntax.Rule.{Rule}
 use Rattle.hs_expr.specs.NameExprs.{expr_tree}
 use Rattle.hs_types.specs.declared.meta.Metamodel.{Metamodel}
+use Rattle.hs_faults.specs.declared.data_parameters.DataParam.{DataParam}
 use Rattle.hs_faults.specs.declared.nodes.DeclaredNode.{DeclaredNode}
 use Rattle.hs_faults.specs.declared.nodes.BlockId.{BlockId}
 use Rattle.hs_faults.specs.Faults.{rule_faults_after, faults_in_rule, faults_of_rule, faults_of_rules}
@@ -29,11 +29,12 @@ use Rattle.hs_faults.specs.Declarations.{class_name_faults, faults_of_nodes, fau
 use Rattle.hs_faults.specs.Sizes.{size_faults, keeps_limits}
 use Rattle.hs_faults.specs.Names.{class_number}
 use Rattle.hs_faults.specs.Nodes.{declared_nodes}
+use Rattle.hs_faults.specs.Numbers.{data_params}
 use Rattle.hs_faults.specs.ParamNodes.{fit_faults, param_node_faults}
 use Rattle.hs_faults.specs.Statements.{Statement, statements}
-use Rattle.hs_faults.specs.StatementFaults.{Slot, attribute_kind, edge_checked, in_rule, is_deleted, is_of_class, is_set_before, kind_checked, may_join, class_scope, visible_node, same_block, same_kind, set_checked, slot_set_by, statement_checked, target_from, statement_faults, first_fault, where_checked}
+use Rattle.hs_faults.specs.StatementFaults.{Slot, attribute_of, edge_checked, in_rule, is_deleted, is_of_class, is_set_before, kind_checked, may_join, rule_scope, visible_node, same_block, same_kind, set_checked, slot_set_by, statement_checked, target_from, statement_faults, first_fault, where_checked}
 use Rattle.hs_faults.specs.UnitFaults.{rules_of}
-use Rattle.hs_expr.proofs.Clean.{clean_at, clean_from, empty_parts, no_test, some-not_none}
+use Rattle.hs_expr.proofs.Clean.{clean_at, empty_parts, no_test, some-not_none}
 
 -- ---- nothing that is reported
 
@@ -80,7 +81,7 @@ known_class m created class e =
     go (Some c) is e f = record { number = c; named = is; fine = f }
 
 -- What the third pass finds of each statement.
-third_at : (m : Metamodel) (params : List Param) (nodes : List DeclaredNode) (before : List Slot) (said : List Statement) → statement_faults m params nodes before said ≡ [] →
+third_at : (m : Metamodel) (params : List DataParam) (nodes : List DeclaredNode) (before : List Slot) (said : List Statement) → statement_faults m params nodes before said ≡ [] →
     (k : ℕ) (s : Statement) → slice_get said k ≡ Some s → statement_checked m params nodes (before ++ flat_map slot_set_by (take k said)) s ≡ Ok tt
 third_at m params nodes before [] e k s at = absurd (none-some s at)
 third_at m params nodes before (t ∷ said) e zero s at =
@@ -105,7 +106,7 @@ pub record Clean (m : Metamodel) (rule : Rule) : Type 0 where
   pub nodes_new : (k : ℕ) (d : DeclaredNode) → slice_get (declared_nodes rule.items) k ≡ Some d → is_again (λ (other : DeclaredNode). other.name) (take k (declared_nodes rule.items)) d.name ≡ false
   pub nodes_known : (k : ℕ) (d : DeclaredNode) → slice_get (declared_nodes rule.items) k ≡ Some d → KnownClass m (is_created d.mark) d.class
   pub params_fit : (k : ℕ) (p : Param) → slice_get rule.params k ≡ Some p → fit_faults (declared_nodes rule.items) p ≡ []
-  pub said : (k : ℕ) (s : Statement) → slice_get (statements rule.items) k ≡ Some s → statement_checked m rule.params (declared_nodes rule.items) (flat_map slot_set_by (take k (statements rule.items))) s ≡ Ok tt
+  pub said : (k : ℕ) (s : Statement) → slice_get (statements rule.items) k ≡ Some s → statement_checked m (data_params rule.params) (declared_nodes rule.items) (flat_map slot_set_by (take k (statements rule.items))) s ≡ Ok tt
   pub limits : keeps_limits m rule ≡ true
 
 clean : (m : Metamodel) (rule : Rule) → faults_in_rule m rule ≡ [] → Clean m rule
@@ -115,14 +116,14 @@ clean m rule e =
     let a = empty_parts (faults_of_params m params) _ e in
     let b = empty_parts (faults_of_nodes m nodes) _ a.1 in
     let c = empty_parts (param_node_faults nodes params) _ b.1 in
-    let d = empty_parts (statement_faults m params nodes [] (statements rule.items)) (size_faults m rule) c.1 in
+    let d = empty_parts (statement_faults m (data_params params) nodes [] (statements rule.items)) (size_faults m rule) c.1 in
     record {
       params_new = λ k p at. no_test _ _ (empty_parts _ (param_kind_faults m p.kind) (clean_at (λ i (q : Param). param_faults m (take i params) q) params a.0 k p at)).0;
       params_known = λ k p at. (empty_parts (fault_if (is_again (λ (other : Param). other.name) (take k params) p.name) _) (param_kind_faults m p.kind) (clean_at (λ i (q : Param). param_faults m (take i params) q) params a.0 k p at)).1;
       nodes_new = λ k n at. no_test _ _ (empty_parts _ (class_name_faults m (is_created n.mark) n.class) (clean_at (λ i (q : DeclaredNode). node_faults m (take i nodes) q) nodes b.0 k n at)).0;
       nodes_known = λ k n at. known_class m (is_created n.mark) n.class (empty_parts (fault_if (is_again (λ (other : DeclaredNode). other.name) (take k nodes) n.name) _) (class_name_faults m (is_created n.mark) n.class) (clean_at (λ i (q : DeclaredNode). node_faults m (take i nodes) q) nodes b.0 k n at)).1;
       params_fit = λ k p at. clean_at (λ i (q : Param). fit_faults nodes q) params c.0 k p at;
-      said = λ k s at. third_at m params nodes [] (statements rule.items) d.0 k s at;
+      said = λ k s at. third_at m (data_params params) nodes [] (statements rule.items) d.0 k s at;
       limits = yes_test (keeps_limits m rule) _ d.1;
     }
 
@@ -202,45 +203,45 @@ of_kind names expr k e = go (check_tree names (expr_tree expr)) refl e
     go (Err f) at e = cc
     go (Ok (a, found)) at e = let same : found ≡ k = cc in (a, at ∙ ap (λ (n : Kind). Ok (a, n)) same)
 
--- The node that a set writes to, and the kind of its attribute, which the value has.
-pub record SoundSet (m : Metamodel) (params : List Param) (nodes : List DeclaredNode) (before : List Slot) (home : BlockId) (node attribute : Name) (value : NameExpr) : Type 0 where
+-- The node that a set writes to, and its attribute, whose kind the value has.
+pub record SoundSet (m : Metamodel) (params : List DataParam) (nodes : List DeclaredNode) (before : List Slot) (home : BlockId) (node attribute : Name) (value : NameExpr) : Type 0 where
   pub written : DeclaredNode
-  pub kind : Kind
+  pub wanted : ℕ × Kind
   pub written_open : visible_node nodes home node.text ≡ Some written
   pub stays : is_deleted written.mark ≡ false
   pub own : same_block home written.block ≡ true
-  pub attribute_of : attribute_kind m written attribute.text ≡ Some kind
+  pub named : attribute_of m written attribute.text ≡ Some wanted
   pub new : is_set_before before node.text attribute.text ≡ false
-  pub of_kind : IsOfKind (class_scope m params nodes home) value kind
+  pub of_kind : IsOfKind (rule_scope m params nodes home) value wanted.1
 
-pub sound_set : (m : Metamodel) (params : List Param) (nodes : List DeclaredNode) (before : List Slot) (home : BlockId) (node attribute : Name) (value : NameExpr) → set_checked m params nodes before home node attribute value ≡ Ok tt → SoundSet m params nodes before home node attribute value
+pub sound_set : (m : Metamodel) (params : List DataParam) (nodes : List DeclaredNode) (before : List Slot) (home : BlockId) (node attribute : Name) (value : NameExpr) → set_checked m params nodes before home node attribute value ≡ Ok tt → SoundSet m params nodes before home node attribute value
 unfolding set_checked
 sound_set m params nodes before home node attribute value e =
     let written = needed-ok (visible_node nodes home node.text) _ _ tt e in
     let stays = demand-ok (not (is_deleted written.0.mark)) _ _ tt written.2 in
     let own = demand-ok (same_block home written.0.block) _ _ tt stays.1 in
-    let wanted = needed-ok (attribute_kind m written.0 attribute.text) _ _ tt own.1 in
+    let wanted = needed-ok (attribute_of m written.0 attribute.text) _ _ tt own.1 in
     let new = demand-ok (not (is_set_before before node.text attribute.text)) _ _ tt wanted.2 in
-    let found = steps-ok (kind_checked (class_scope m params nodes home) value) _ tt new.1 in
-    let same = kinds_same found.0 wanted.0 (demanded (same_kind found.0 wanted.0) _ found.2) in
+    let found = steps-ok (kind_checked (rule_scope m params nodes home) value) _ tt new.1 in
+    let same = kinds_same found.0 wanted.0.1 (demanded (same_kind found.0 wanted.0.1) _ found.2) in
     record {
       written = written.0;
-      kind = wanted.0;
+      wanted = wanted.0;
       written_open = written.1;
       stays = go (is_deleted written.0.mark) stays.0;
       own = own.0;
-      attribute_of = wanted.1;
+      named = wanted.1;
       new = go (is_set_before before node.text attribute.text) new.0;
-      of_kind = of_kind (class_scope m params nodes home) value wanted.0 (found.1 ∙ ap (λ (k : Kind). Ok k) same);
+      of_kind = of_kind (rule_scope m params nodes home) value wanted.0.1 (found.1 ∙ ap (λ (k : Kind). Ok k) same);
     }
   where
     go : (b : Bool) → not b ≡ true → b ≡ false
     go true e = cc
     go false e = refl
 
-pub sound_where : (m : Metamodel) (params : List Param) (nodes : List DeclaredNode) (home : BlockId) (word : Span) (test : NameExpr) → where_checked m params nodes home word test ≡ Ok tt → IsOfKind (class_scope m params nodes home) test sort.Bool
+pub sound_where : (m : Metamodel) (params : List DataParam) (nodes : List DeclaredNode) (home : BlockId) (word : Span) (test : NameExpr) → where_checked m params nodes home word test ≡ Ok tt → IsOfKind (rule_scope m params nodes home) test sort.Bool
 unfolding where_checked
 sound_where m params nodes home word test e =
-    let found = steps-ok (kind_checked (class_scope m params nodes home) test) _ tt e in
+    let found = steps-ok (kind_checked (rule_scope m params nodes home) test) _ tt e in
     let same = kinds_same found.0 sort.Bool (demanded (same_kind found.0 sort.Bool) _ found.2) in
-    of_kind (class_scope m params nodes home) test sort.Bool (found.1 ∙ ap (λ (k : Kind). Ok k) same)
+    of_kind (rule_scope m params nodes home) test sort.Bool (found.1 ∙ ap (λ (k : Kind). Ok k) same)

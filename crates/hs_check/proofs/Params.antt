@@ -1,5 +1,5 @@
 -- Parameters and names of a rule without faults.
-use Rattle.std.proofs.Common.{ℕ, suc, ◌≡◌, ◌++◌, List, [], ◌∷◌, Bool, true, false, cond, not, map, slice_get, Option, Some, None, is_some, if◌then◌else◌, refl, ap, sym, ◌∙◌, subst}
+use Rattle.std.proofs.Common.{ℕ, suc, ◌≡◌, ◌++◌, List, [], ◌∷◌, true, false, not, map, slice_get, Option, Some, None, is_some, if◌then◌else◌, refl, ap, sym, ◌∙◌, subst}
 use Rattle.std.proofs.lemmas.Bool.{and_parts, eq-eqb, false≢true}
 use Rattle.std.proofs.lemmas.Grind.{flat_map-append}
 use Rattle.std.proofs.lemmas.List.Elements.{All-append, All-map, All-nil}
@@ -16,7 +16,6 @@ use Rattle.hs_text.specs.declared.syntax.Mark.TheVariants as written
 use Rattle.hs_text.specs.declared.syntax.Param.{Param as WrittenParam}
 use Rattle.hs_text.specs.declared.syntax.Rule.{Rule as WrittenRule}
 use Rattle.hs_types.specs.declared.meta.Metamodel.{Metamodel}
-use Rattle.hs_types.specs.declared.rule.Direction.TheVariants.{In}
 use Rattle.hs_types.specs.declared.rule.Multi.{Multi}
 use Rattle.hs_types.specs.declared.rule.Param.{Param}
 use Rattle.hs_types.specs.declared.rule.Part.{Part}
@@ -37,9 +36,9 @@ use Rattle.hs_check.specs.Parameters.{class_meant, direction_meant, kind_meant, 
 use Rattle.hs_check.specs.Rules.{forbid_at, multi_at, multi_meant, part_meant, require_at, rule_meant, rule_contents}
 use Rattle.hs_check.proofs.Uniqueness.{HaveOwn, names_apart, one_place}
 use Rattle.hs_check.proofs.BlockIds.{Unlike, all_homes, homes_unlike}
-use Rattle.hs_check.proofs.Edges.{homes_same}
-use Rattle.hs_check.proofs.Visibility.{called, found_in, kernel_home, node_in, node_made, nodes_in-picked}
+use Rattle.hs_check.proofs.Visibility.{called, found_in, homes_same, kernel_home, node_in, node_made, nodes_in-picked}
 use Rattle.hs_check.proofs.Parts.{kernel_of}
+use Rattle.hs_check.proofs.Scopes.{in_is}
 use Rattle.hs_check.proofs.Filters.{All-filter_map, EachPair-filter_map, EachPair-map}
 use Rattle.hs_check.proofs.NoFaults.{Clean, yes_test}
 use Rattle.hs_expr.proofs.Items.{All-at, All-from, find-same, text_same}
@@ -55,10 +54,6 @@ side_is given.In written.Delete = refl
 side_is given.Out written.Preserve = refl
 side_is given.Out written.Create = refl
 side_is given.Out written.Delete = refl
-
-pub in_is : (direction : WrittenDirection) → is_out direction ≡ false → direction_meant direction ≡ In
-in_is given.In e = refl
-in_is given.Out e = absurd (false≢true (sym e))
 
 object_fits : (m : Metamodel) (rule : WrittenRule) (p : WrittenParam) → object_faults (declared_nodes rule.items) p ≡ [] → ParamFits (kernel_of m rule) (param_meant m p) (Object (class_meant m p.kind.text))
 object_fits m rule p e =
@@ -140,12 +135,12 @@ nodes_by_parts m rule =
     let forbids = each forbid_at rule.items in
     let requires = each require_at rule.items in
     let multis = each multi_at rule.items in
-    ap (λ (f : List PatternNode). kernel ++ f ++ flat_map (λ (part : Part). part.nodes) (map (part_meant m (rule_contents m rule) kernel) requires) ++ flat_map (λ (multi : Multi). multi.shape.nodes) (map (multi_meant m (rule_contents m rule) kernel) multis))
-    (flat_mapped (λ (part : Part). part.nodes) (part_meant m (rule_contents m rule) kernel) forbids)
-    ∙ ap (λ (f : List PatternNode). kernel ++ flat_map nodes forbids ++ f ++ flat_map (λ (multi : Multi). multi.shape.nodes) (map (multi_meant m (rule_contents m rule) kernel) multis))
-    (flat_mapped (λ (part : Part). part.nodes) (part_meant m (rule_contents m rule) kernel) requires)
+    ap (λ (f : List PatternNode). kernel ++ f ++ flat_map (λ (part : Part). part.nodes) (map (part_meant m (rule_contents rule) kernel) requires) ++ flat_map (λ (multi : Multi). multi.shape.nodes) (map (multi_meant m (rule_contents rule) kernel) multis))
+    (flat_mapped (λ (part : Part). part.nodes) (part_meant m (rule_contents rule) kernel) forbids)
+    ∙ ap (λ (f : List PatternNode). kernel ++ flat_map nodes forbids ++ f ++ flat_map (λ (multi : Multi). multi.shape.nodes) (map (multi_meant m (rule_contents rule) kernel) multis))
+    (flat_mapped (λ (part : Part). part.nodes) (part_meant m (rule_contents rule) kernel) requires)
     ∙ ap (λ (f : List PatternNode). kernel ++ flat_map nodes forbids ++ flat_map nodes requires ++ f)
-    (flat_mapped (λ (multi : Multi). multi.shape.nodes) (multi_meant m (rule_contents m rule) kernel) multis)
+    (flat_mapped (λ (multi : Multi). multi.shape.nodes) (multi_meant m (rule_contents rule) kernel) multis)
     ∙ joined nodes kernel forbids requires multis
   where
     joined : (nodes : BlockId → List PatternNode) (kernel : List PatternNode) (forbids requires multis : List BlockId) → kernel ++ flat_map nodes forbids ++ flat_map nodes requires ++ flat_map nodes multis ≡ kernel ++ flat_map nodes ((forbids ++ requires) ++ multis)

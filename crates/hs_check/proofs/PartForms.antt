@@ -20,11 +20,12 @@ use Rattle.hs_faults.specs.declared.nodes.BlockId.{BlockId}
 use Rattle.hs_faults.specs.Declarations.{is_created}
 use Rattle.hs_faults.specs.Names.{has_concrete, is_concrete}
 use Rattle.hs_faults.specs.Nodes.{declared_nodes}
+use Rattle.hs_faults.specs.Numbers.{data_params}
 use Rattle.hs_faults.specs.Statements.{Statement, statements}
-use Rattle.hs_faults.specs.StatementFaults.{class_scope, slot_set_by, statement_checked}
+use Rattle.hs_faults.specs.StatementFaults.{rule_scope, slot_set_by, statement_checked}
 use Rattle.hs_faults.specs.Marks.{mark_meant}
 use Rattle.hs_check.specs.Elements.{edge_in, edges_of_part, node_meant, nodes_in}
-use Rattle.hs_check.specs.Expressions.{number_scope, where_in, wheres_in}
+use Rattle.hs_check.specs.Expressions.{where_in, wheres_in}
 use Rattle.hs_check.specs.Parameters.{class_meant, params_meant}
 use Rattle.hs_check.proofs.Classes.{concrete, have_common}
 use Rattle.hs_check.proofs.ExprKinds.{IsKnown}
@@ -32,7 +33,7 @@ use Rattle.hs_check.proofs.Edges.{edge_fits, end_test}
 use Rattle.hs_check.proofs.StatementForms.{edge_made, expr_fits, where_made}
 use Rattle.hs_check.proofs.Visibility.{Opens, node_in, node_made, nodes_in-picked}
 use Rattle.hs_check.proofs.Filters.{All-filter_map}
-use Rattle.hs_check.proofs.Scopes.{follow, scope_with}
+use Rattle.hs_check.proofs.Scopes.{agree, scope_with}
 use Rattle.hs_check.proofs.NoFaults.{Clean, sound_where}
 
 -- The nodes that a part of a rule may name, behind those before its own.
@@ -40,15 +41,15 @@ abbrev pub visible_nodes : Metamodel → Rule → BlockId → List PatternNode �
 visible_nodes m rule part before = before ++ nodes_in m (declared_nodes rule.items) part
 
 -- What the names of its expressions stand for, and the kinds of what they read.
-abbrev pub names_in : Metamodel → Rule → BlockId → List PatternNode → Names
-names_in m rule part before = number_scope m (params_meant m rule.params) (visible_nodes m rule part before)
+abbrev pub names_in : Metamodel → Rule → BlockId → Names
+names_in m rule part = rule_scope m (data_params rule.params) (declared_nodes rule.items) part
 
 abbrev pub scope_in : Metamodel → Rule → BlockId → List PatternNode → Scope
 scope_in m rule part before = scope_with m (params_meant m rule.params) (visible_nodes m rule part before)
 
 -- What is checked of a statement, behind those before it.
 abbrev pub IsRight : Metamodel → Rule → ℕ → Statement → Type 0
-IsRight m rule k s = statement_checked m rule.params (declared_nodes rule.items) (flat_map slot_set_by (take k (statements rule.items))) s ≡ Ok tt
+IsRight m rule k s = statement_checked m (data_params rule.params) (declared_nodes rule.items) (flat_map slot_set_by (take k (statements rule.items))) s ≡ Ok tt
 
 -- ---- nodes
 
@@ -87,18 +88,18 @@ module _ (m : Metamodel) (rule : Rule) (clean : Clean m rule) (part : BlockId) (
 
   -- ---- conditions
 
-  where_fits : (k : ℕ) (s : Statement) (e : Expr) → slice_get (statements rule.items) k ≡ Some s → where_in (names_in m rule part before) part s ≡ Some e →
+  where_fits : (k : ℕ) (s : Statement) (e : Expr) → slice_get (statements rule.items) k ≡ Some s → where_in (names_in m rule part) part s ≡ Some e →
       (kind_in (scope_in m rule part before) e ≡ Some kind.Bool) × All (IsKnown (scope_in m rule part before)) (reads_of e)
   where_fits k s e at made =
-      let is = where_made (names_in m rule part before) part s e made in
+      let is = where_made (names_in m rule part) part s e made in
       let right = subst (IsRight m rule k) is.is (clean.said k s at) in
-      expr_fits (class_scope m rule.params (declared_nodes rule.items) part) (names_in m rule part before) (scope_in m rule part before) (follow m rule.params (declared_nodes rule.items) part before opens)
-      is.test kind.Bool e (sound_where m rule.params (declared_nodes rule.items) part is.word is.test right) is.expr
+      expr_fits (names_in m rule part) (scope_in m rule part before) (agree m rule clean part before opens)
+      is.test kind.Bool e (sound_where m (data_params rule.params) (declared_nodes rule.items) part is.word is.test right) is.expr
 
-  pub wheres_fit : All (λ e. kind_in (scope_in m rule part before) e ≡ Some kind.Bool) (wheres_in (names_in m rule part before) (statements rule.items) part)
+  pub wheres_fit : All (λ e. kind_in (scope_in m rule part before) e ≡ Some kind.Bool) (wheres_in (names_in m rule part) (statements rule.items) part)
   wheres_fit = All-filter_map (λ (e : Expr). kind_in (scope_in m rule part before) e ≡ Some kind.Bool)
-      (where_in (names_in m rule part before) part) (statements rule.items) (λ k s e at made. (where_fits k s e at made).0)
+      (where_in (names_in m rule part) part) (statements rule.items) (λ k s e at made. (where_fits k s e at made).0)
 
-  pub wheres_known : All (λ e. All (IsKnown (scope_in m rule part before)) (reads_of e)) (wheres_in (names_in m rule part before) (statements rule.items) part)
+  pub wheres_known : All (λ e. All (IsKnown (scope_in m rule part before)) (reads_of e)) (wheres_in (names_in m rule part) (statements rule.items) part)
   wheres_known = All-filter_map (λ (e : Expr). All (IsKnown (scope_in m rule part before)) (reads_of e))
-      (where_in (names_in m rule part before) part) (statements rule.items) (λ k s e at made. (where_fits k s e at made).1)
+      (where_in (names_in m rule part) part) (statements rule.items) (λ k s e at made. (where_fits k s e at made).1)

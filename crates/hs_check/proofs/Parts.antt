@@ -1,5 +1,5 @@
 -- The kernel, the parts and the multi-rules that a rule without faults means.
-use Rattle.std.proofs.Common.{ℕ, zero, suc, ◌+◌, ◌<◌, ◌≡◌, ◌&&◌, ◌||◌, ◌++◌, List, [], ◌∷◌, Bool, true, false, cond, eqb, nat_lt, map, length, slice_get, Option, None, is_some, if◌then◌else◌, refl, ap, sym, ◌∙◌, subst, arith}
+use Rattle.std.proofs.Common.{ℕ, ◌+◌, ◌≡◌, ◌&&◌, ◌||◌, ◌++◌, List, [], ◌∷◌, Bool, true, false, cond, eqb, nat_lt, map, length, Option, None, is_some, if◌then◌else◌, refl, ap, sym, ◌∙◌, subst, arith}
 use Rattle.std.proofs.lemmas.Bool.{and_parts, eqb-true, false≢true, lt-ltb, ltb-true}
 use Rattle.std.proofs.lemmas.List.Elements.{All-append, All-cons, All-head, All-map, All-nil, All-tail, All-weaker}
 use Rattle.std.specs.List.{All, filter, flat_map, list_any}
@@ -29,15 +29,14 @@ use Rattle.hs_faults.specs.Statements.{statements}
 use Rattle.hs_faults.specs.Marks.{mark_meant}
 use Rattle.hs_check.specs.Elements.{edge_in, edges_of_part, node_meant, nodes_in}
 use Rattle.hs_check.specs.Expressions.{sets_in, wheres_in}
-use Rattle.hs_check.specs.Parameters.{params_meant}
 use Rattle.hs_check.specs.Rules.{multi_at, multi_meant, part_meant, rule_meant, rule_contents}
 use Rattle.hs_check.proofs.Bounds.{block_opens, few_nodes, few_open, is_few, kernel_opens}
 use Rattle.hs_check.proofs.PartForms.{edges_fit, names_in, nodes_fit, visible_nodes, scope_in, wheres_fit, wheres_known}
 use Rattle.hs_check.proofs.ExprKinds.{IsKnown}
 use Rattle.hs_check.proofs.BlockIds.{KeepsEdge, KeepsNode, are_multis, edges_keep, nodes_keep}
-use Rattle.hs_check.proofs.Edges.{end_test, homes_same}
+use Rattle.hs_check.proofs.Edges.{end_test}
 use Rattle.hs_check.proofs.StatementForms.{edge_made}
-use Rattle.hs_check.proofs.Visibility.{Opens, node_in, node_made, nodes_in-picked}
+use Rattle.hs_check.proofs.Visibility.{Opens, homes_same, node_in, node_made, nodes_in-picked}
 use Rattle.hs_check.proofs.Filters.{All-filter_map}
 use Rattle.hs_check.proofs.Sets.{sets_fit, sets_known, sets_once}
 use Rattle.hs_check.proofs.NoFaults.{Clean}
@@ -81,7 +80,7 @@ pattern_block home.Kernel e = absurd (false≢true e)
 pattern_block (home.Pattern i) e = refl
 pattern_block (home.Multi i) e = refl
 
-pub part_fits : (m : Metamodel) (rule : WrittenRule) → Clean m rule → (part : BlockId) → is_pattern part ≡ true → IsFewPart rule part → IsPart m (rule_meant m rule) (part_meant m (rule_contents m rule) (kernel_of m rule) part)
+pub part_fits : (m : Metamodel) (rule : WrittenRule) → Clean m rule → (part : BlockId) → is_pattern part ≡ true → IsFewPart rule part → IsPart m (rule_meant m rule) (part_meant m (rule_contents rule) (kernel_of m rule) part)
 part_fits m rule clean part pattern few = record {
   nodes_kept = nodes_kept m rule part pattern;
   edges_kept = edges_kept m rule part (visible_nodes m rule part (kernel_of m rule)) pattern;
@@ -104,16 +103,16 @@ multi_block (home.Multi i) e = (refl, refl)
 
 -- The reads of a part of the rule.
 abbrev pub reads_there : Metamodel → WrittenRule → BlockId → List PatternNode → List SlotRead
-reads_there m rule part before = reads_in (wheres_in (names_in m rule part before) (statements rule.items) part) (sets_in m (params_meant m rule.params) (visible_nodes m rule part before) (statements rule.items) part)
+reads_there m rule part before = reads_in (wheres_in (names_in m rule part) (statements rule.items) part) (sets_in m (names_in m rule part) (visible_nodes m rule part before) (statements rule.items) part)
 
 reads_known : (m : Metamodel) (rule : WrittenRule) (clean : Clean m rule) (part : BlockId) (before : List PatternNode) → Opens m (declared_nodes rule.items) part before → All (IsKnown (scope_in m rule part before)) (reads_there m rule part before)
 reads_known m rule clean part before opens =
-    All-append (IsKnown (scope_in m rule part before)) (flat_map reads_of (wheres_in (names_in m rule part before) (statements rule.items) part))
-    (flat_map (λ (item : SetItem). reads_of item.value) (sets_in m (params_meant m rule.params) (visible_nodes m rule part before) (statements rule.items) part))
-    (All-flat_map (IsKnown (scope_in m rule part before)) reads_of (wheres_in (names_in m rule part before) (statements rule.items) part) (wheres_known m rule clean part before opens))
-    (All-flat_map (IsKnown (scope_in m rule part before)) (λ (item : SetItem). reads_of item.value) (sets_in m (params_meant m rule.params) (visible_nodes m rule part before) (statements rule.items) part) (sets_known m rule clean part before opens))
+    All-append (IsKnown (scope_in m rule part before)) (flat_map reads_of (wheres_in (names_in m rule part) (statements rule.items) part))
+    (flat_map (λ (item : SetItem). reads_of item.value) (sets_in m (names_in m rule part) (visible_nodes m rule part before) (statements rule.items) part))
+    (All-flat_map (IsKnown (scope_in m rule part before)) reads_of (wheres_in (names_in m rule part) (statements rule.items) part) (wheres_known m rule clean part before opens))
+    (All-flat_map (IsKnown (scope_in m rule part before)) (λ (item : SetItem). reads_of item.value) (sets_in m (names_in m rule part) (visible_nodes m rule part before) (statements rule.items) part) (sets_known m rule clean part before opens))
 
-pub multi_fits : (m : Metamodel) → IsMeta m → (rule : WrittenRule) → Clean m rule → (part : BlockId) → is_multi part ≡ true → IsFewPart rule part → IsMulti m (rule_meant m rule) (multi_meant m (rule_contents m rule) (kernel_of m rule) part)
+pub multi_fits : (m : Metamodel) → IsMeta m → (rule : WrittenRule) → Clean m rule → (part : BlockId) → is_multi part ≡ true → IsFewPart rule part → IsMulti m (rule_meant m rule) (multi_meant m (rule_contents rule) (kernel_of m rule) part)
 multi_fits m is rule clean part multi few =
     let before = kernel_of m rule in
     let kinds = multi_block part multi in
@@ -124,7 +123,7 @@ multi_fits m is rule clean part multi few =
       wheres_fit = wheres_fit m rule clean part before opens;
       sets_fit = sets_fit m rule clean part before opens;
       sets_once = sets_once m rule clean part before opens;
-      slots = are_slots m is (scope_in m rule part before) before (nodes_in m (declared_nodes rule.items) part) (reads_there m rule part before) (reads_there m rule part before) (sets_in m (params_meant m rule.params) (visible_nodes m rule part before) (statements rule.items) part)
+      slots = are_slots m is (scope_in m rule part before) before (nodes_in m (declared_nodes rule.items) part) (reads_there m rule part before) (reads_there m rule part before) (sets_in m (names_in m rule part) (visible_nodes m rule part before) (statements rule.items) part)
           (few_open m rule clean part few) (λ n a low high. refl) (reads_known m rule clean part before opens) (sets_fit m rule clean part before opens);
     }
 
@@ -158,10 +157,10 @@ any_kept {A} p t (x ∷ xs) h = go (t x) (p x) refl refl (any_kept p t xs h)
 kernel_known : (m : Metamodel) (rule : WrittenRule) → Clean m rule → All (IsFewPart rule) (each multi_at rule.items) → All (λ read. is_some (slot_kind m (kernel_of m rule) read.node read.attribute) ≡ true) (kernel_reads (rule_meant m rule))
 kernel_known m rule clean few = all_kept (λ (read : SlotRead). is_some (slot_kind m (kernel_of m rule) read.node read.attribute) ≡ true) (λ (read : SlotRead). nat_lt read.node (length (kernel_of m rule))) (all_reads (rule_meant m rule))
     (All-append (IsKnownHere m (kernel_of m rule)) (reads_there m rule home.Kernel [])
-    (flat_map (λ (multi : Multi). reads_in multi.wheres multi.sets) (map (multi_meant m (rule_contents m rule) (kernel_of m rule)) (each multi_at rule.items)))
+    (flat_map (λ (multi : Multi). reads_in multi.wheres multi.sets) (map (multi_meant m (rule_contents rule) (kernel_of m rule)) (each multi_at rule.items)))
     (All-weaker (IsKnown (scope_in m rule home.Kernel [])) (IsKnownHere m (kernel_of m rule)) (λ read known below. known) (reads_there m rule home.Kernel []) (reads_known m rule clean home.Kernel [] (kernel_opens m rule clean)))
-    (All-flat_map (IsKnownHere m (kernel_of m rule)) (λ (multi : Multi). reads_in multi.wheres multi.sets) (map (multi_meant m (rule_contents m rule) (kernel_of m rule)) (each multi_at rule.items))
-    (All-map (λ (multi : Multi). All (IsKnownHere m (kernel_of m rule)) (reads_in multi.wheres multi.sets)) (multi_meant m (rule_contents m rule) (kernel_of m rule)) (each multi_at rule.items)
+    (All-flat_map (IsKnownHere m (kernel_of m rule)) (λ (multi : Multi). reads_in multi.wheres multi.sets) (map (multi_meant m (rule_contents rule) (kernel_of m rule)) (each multi_at rule.items))
+    (All-map (λ (multi : Multi). All (IsKnownHere m (kernel_of m rule)) (reads_in multi.wheres multi.sets)) (multi_meant m (rule_contents rule) (kernel_of m rule)) (each multi_at rule.items)
     (All-from (λ (part : BlockId). All (IsKnownHere m (kernel_of m rule)) (reads_there m rule part (kernel_of m rule))) (each multi_at rule.items) (λ k part at.
     let multi = All-at (λ (h : BlockId). is_multi h ≡ true) (each multi_at rule.items) k part (are_multis rule.items) at in
     let opens = block_opens m rule clean part (multi_block part multi).0 (All-at (IsFewPart rule) (each multi_at rule.items) k part few at) in
@@ -178,7 +177,7 @@ pub kernel_fits : (m : Metamodel) → IsMeta m → (rule : WrittenRule) → Clea
 kernel_fits m is rule clean few =
     let opens = kernel_opens m rule clean in
     let nodes = kernel_of m rule in
-    let sets = sets_in m (params_meant m rule.params) nodes (statements rule.items) home.Kernel in
+    let sets = sets_in m (names_in m rule home.Kernel) nodes (statements rule.items) home.Kernel in
     let few_here = few_nodes m (declared_nodes rule.items) (statements rule.items) home.Kernel (is_few m rule clean).kernel in
     record {
       nodes_fit = nodes_fit m rule clean home.Kernel;

@@ -1,5 +1,5 @@
 -- What statements, declarations and calls of a text without faults name is found.
-use Rattle.std.proofs.Common.{ℕ, ◌+◌, ◌≡◌, ◌&&◌, ◌||◌, ◌++◌, suc, List, [], ◌∷◌, Bool, true, false, take, slice_get, is_some, Option, Some, None, Ok, if◌then◌else◌, refl, ap, sym, ◌∙◌}
+use Rattle.std.proofs.Common.{ℕ, ◌+◌, ◌≡◌, ◌&&◌, ◌||◌, suc, List, [], ◌∷◌, Bool, true, false, take, slice_get, is_some, Option, Some, None, Ok, if◌then◌else◌, refl, ap, sym, ◌∙◌}
 use Rattle.std.proofs.lemmas.Bool.{and_from, and_parts, false≢true, or_left, or_right}
 use Rattle.std.proofs.lemmas.List.Elements.{All-append, All-cons, All-nil}
 use Rattle.std.specs.List.{All, flat_map, list_all}
@@ -28,11 +28,12 @@ use Rattle.hs_faults.specs.declared.nodes.DeclaredNode.{DeclaredNode}
 use Rattle.hs_faults.specs.Declarations.{class_name_faults, param_kind_faults}
 use Rattle.hs_faults.specs.Names.{class_number, data_named, feature_named}
 use Rattle.hs_faults.specs.Nodes.{declared_nodes}
-use Rattle.hs_faults.specs.Sizes.{block_of, blocks, has_few}
+use Rattle.hs_faults.specs.Numbers.{data_params}
+use Rattle.hs_faults.specs.Sizes.{block_of, has_few}
 use Rattle.hs_faults.specs.StatementFaults.{slot_set_by}
 use Rattle.hs_faults.specs.Statements.{Statement, Edge, Set, Where, statement_of_element, statement_of_simple, statements, statements_of_item}
 use Rattle.hs_faults.specs.UnitFaults.{argument_faults, call_faults, callee_params, faults_of, first_rule, first_unit, is_known_kind, rules_of, units_of, written_calls}
-use Rattle.hs_check.specs.Elements.{feature_found, node_found, node_meant, nodes_in}
+use Rattle.hs_check.specs.Elements.{feature_found, node_found, node_meant}
 use Rattle.hs_check.specs.Parameters.{class_meant}
 use Rattle.hs_check.specs.Resolution.{Resolve, call_resolves, finds_feature, node_resolves, nodes_before, nodes_seen, param_resolves, rule_resolves, statement_resolves, unit_resolves}
 use Rattle.hs_check.specs.Units.{callees, place_among}
@@ -46,7 +47,7 @@ use Rattle.hs_check.proofs.NoUnitFaults.{CleanText, CleanUnit, clean_text}
 use Rattle.hs_expr.proofs.Faults.{none-from_verdict}
 use Rattle.hs_check.proofs.StatementForms.{attribute_spot}
 use Rattle.hs_check.proofs.UnitForms.{some_callee}
-use Rattle.hs_check.proofs.Visibility.{Opens, Spot, called}
+use Rattle.hs_check.proofs.Visibility.{Opens, Spot}
 use Rattle.hs_expr.proofs.Items.{All-at}
 
 list_all-from : {A : Type 0} (p : A → Bool) (xs : List A) → ((k : ℕ) (x : A) → slice_get xs k ≡ Some x → p x ≡ true) → list_all p xs ≡ true
@@ -115,10 +116,10 @@ statement_there m rule clean k (Set block node attribute value) at few =
     let ds = declared_nodes rule.items in
     let nodes = nodes_seen m ds block in
     let opens = opens_at m rule clean block few in
-    let sound = sound_set m rule.params ds (flat_map slot_set_by (take k (statements rule.items))) block node attribute value (clean.said k (Set block node attribute value) at) in
+    let sound = sound_set m (data_params rule.params) ds (flat_map slot_set_by (take k (statements rule.items))) block node attribute value (clean.said k (Set block node attribute value) at) in
     let spot = opens.found node.text sound.written sound.written_open in
-    let by = attribute_spot m nodes node.text attribute.text sound.written sound.kind spot sound.attribute_of in
-    feature_there m nodes node.text attribute.text sound.written by.number spot by.named
+    let by = attribute_spot m nodes node.text attribute.text sound.written sound.wanted spot sound.named in
+    feature_there m nodes node.text attribute.text sound.written sound.wanted.0 spot by.named
 
 kind_there : (m : Metamodel) (word : Name) → param_kind_faults m word ≡ [] → is_known_kind m word.text ≡ true
 kind_there m word e = go (data_named word.text) e

@@ -1,9 +1,9 @@
 -- A rule without faults keeps the limits of rules.
-use Rattle.std.proofs.Common.{ℕ, zero, suc, ◌≤◌, ◌≡◌, ◌&&◌, List, [], ◌∷◌, Bool, true, eqb, length, slice_get, Some, ap, sym, ◌∙◌, subst, arith}
+use Rattle.std.proofs.Common.{ℕ, ◌≤◌, ◌≡◌, ◌&&◌, List, [], true, eqb, length, slice_get, Some, ap, sym, ◌∙◌, subst, arith}
 use Rattle.std.proofs.lemmas.Bool.{and_from, and_parts, eqb-true, leb-true}
 use Rattle.std.proofs.lemmas.List.{length-map}
 use Rattle.std.proofs.lemmas.List.Elements.{All-map}
-use Rattle.std.specs.List.{All, filter, list_all}
+use Rattle.std.specs.List.{All, filter}
 use Rattle.hs_expr.specs.declared.Expr.{Expr}
 use Rattle.hs_expr.specs.Evaluation.{nesting}
 use Rattle.hs_expr.specs.Verdict.{each}
@@ -25,7 +25,7 @@ use Rattle.hs_faults.specs.Statements.{Statement, Edge, statements}
 use Rattle.hs_faults.specs.StatementFaults.{same_block}
 use Rattle.hs_check.specs.Elements.{edge_in, edges_of_part, node_number, nodes_in}
 use Rattle.hs_check.specs.Expressions.{set_in, sets_in, where_in, wheres_in}
-use Rattle.hs_check.specs.Parameters.{class_meant, param_meant, params_meant}
+use Rattle.hs_check.specs.Parameters.{class_meant, param_meant}
 use Rattle.hs_check.specs.Rules.{forbid_at, multi_at, multi_meant, part_meant, require_at, rule_meant, rule_contents}
 use Rattle.hs_check.proofs.Params.{itself}
 use Rattle.hs_check.proofs.Bounds.{block_opens, few_in, few_nodes, is_few, kernel_opens}
@@ -110,14 +110,14 @@ module _ (m : Metamodel) (rule : WrittenRule) (clean : Clean m rule) (part : Blo
 
 -- ---- expressions
 
-flat : (m : Metamodel) (rule : WrittenRule) (part : BlockId) (before : List PatternNode) → AreFlat (wheres_in (names_in m rule part before) (statements rule.items) part) (sets_in m (params_meant m rule.params) (visible_nodes m rule part before) (statements rule.items) part)
+flat : (m : Metamodel) (rule : WrittenRule) (part : BlockId) (before : List PatternNode) → AreFlat (wheres_in (names_in m rule part) (statements rule.items) part) (sets_in m (names_in m rule part) (visible_nodes m rule part before) (statements rule.items) part)
 flat m rule part before = (
-  All-filter_map (λ (e : Expr). nesting e ≤ 32) (where_in (names_in m rule part before) part) (statements rule.items) (λ k s e at made.
-      let is = where_made (names_in m rule part before) part s e made in
-      expr_flat (names_in m rule part before) is.test e is.expr),
-  All-filter_map (λ (item : SetItem). nesting item.value ≤ 32) (set_in m (params_meant m rule.params) (visible_nodes m rule part before) part) (statements rule.items) (λ k s item at made.
-      let is = set_made m (params_meant m rule.params) (visible_nodes m rule part before) part s item made in
-      subst (λ (item : SetItem). nesting item.value ≤ 32) is.whole (expr_flat (names_in m rule part before) is.value is.e is.expr)),
+  All-filter_map (λ (e : Expr). nesting e ≤ 32) (where_in (names_in m rule part) part) (statements rule.items) (λ k s e at made.
+      let is = where_made (names_in m rule part) part s e made in
+      expr_flat (names_in m rule part) is.test e is.expr),
+  All-filter_map (λ (item : SetItem). nesting item.value ≤ 32) (set_in m (names_in m rule part) (visible_nodes m rule part before) part) (statements rule.items) (λ k s item at made.
+      let is = set_made m (names_in m rule part) (visible_nodes m rule part before) part s item made in
+      subst (λ (item : SetItem). nesting item.value ≤ 32) is.whole (expr_flat (names_in m rule part) is.value is.e is.expr)),
 )
 
 -- ---- the rule
@@ -127,9 +127,9 @@ small m rule clean forbids requires multis =
     let few = is_few m rule clean in
     let kernel = kernel_of m rule in
     let params_made = length-map rule.params (param_meant m) in
-    let forbids_made = length-map (each forbid_at rule.items) (part_meant m (rule_contents m rule) kernel) in
-    let requires_made = length-map (each require_at rule.items) (part_meant m (rule_contents m rule) kernel) in
-    let multis_made = length-map (each multi_at rule.items) (multi_meant m (rule_contents m rule) kernel) in
+    let forbids_made = length-map (each forbid_at rule.items) (part_meant m (rule_contents rule) kernel) in
+    let requires_made = length-map (each require_at rule.items) (part_meant m (rule_contents rule) kernel) in
+    let multis_made = length-map (each multi_at rule.items) (multi_meant m (rule_contents rule) kernel) in
     let patterns = patterns_counted 0 rule.items in
     let counted = multis_counted 0 rule.items in
     let few_params = few.params in
@@ -140,16 +140,16 @@ small m rule clean forbids requires multis =
       parts = omega (arith, forbids_made, requires_made, patterns, few_patterns);
       multis = omega (arith, multis_made, counted, few_multis);
       kernel = small_shape m rule clean home.Kernel [] (kernel_opens m rule clean) few.kernel;
-      each_forbid = All-map (λ (part : Part). IsSmallShape part.nodes part.edges) (part_meant m (rule_contents m rule) kernel) (each forbid_at rule.items)
+      each_forbid = All-map (λ (part : Part). IsSmallShape part.nodes part.edges) (part_meant m (rule_contents rule) kernel) (each forbid_at rule.items)
           (All-from (λ (h : BlockId). IsSmallShape (nodes_in m (declared_nodes rule.items) h) (edges_of_part m (visible_nodes m rule h kernel) (statements rule.items) h)) (each forbid_at rule.items) (λ k h at.
           let few_here = All-at (IsFewPart rule) (each forbid_at rule.items) k h forbids at in
           small_shape m rule clean h kernel (block_opens m rule clean h (pattern_block h (All-at (λ (h : BlockId). is_pattern h ≡ true) (each forbid_at rule.items) k h (are_patterns_forbid rule.items) at)) few_here) few_here));
-      each_need = All-map (λ (part : Part). IsSmallShape part.nodes part.edges) (part_meant m (rule_contents m rule) kernel) (each require_at rule.items)
+      each_need = All-map (λ (part : Part). IsSmallShape part.nodes part.edges) (part_meant m (rule_contents rule) kernel) (each require_at rule.items)
           (All-from (λ (h : BlockId). IsSmallShape (nodes_in m (declared_nodes rule.items) h) (edges_of_part m (visible_nodes m rule h kernel) (statements rule.items) h)) (each require_at rule.items) (λ k h at.
           let few_here = All-at (IsFewPart rule) (each require_at rule.items) k h requires at in
           small_shape m rule clean h kernel (block_opens m rule clean h (pattern_block h (All-at (λ (h : BlockId). is_pattern h ≡ true) (each require_at rule.items) k h (are_patterns_require rule.items) at)) few_here) few_here));
-      each_multi = All-map (λ (multi : Multi). IsSmallShape multi.shape.nodes multi.shape.edges × AreFlat multi.wheres multi.sets) (multi_meant m (rule_contents m rule) kernel) (each multi_at rule.items)
-          (All-from (λ (h : BlockId). IsSmallShape (nodes_in m (declared_nodes rule.items) h) (edges_of_part m (visible_nodes m rule h kernel) (statements rule.items) h) × AreFlat (wheres_in (names_in m rule h kernel) (statements rule.items) h) (sets_in m (params_meant m rule.params) (visible_nodes m rule h kernel) (statements rule.items) h)) (each multi_at rule.items) (λ k h at.
+      each_multi = All-map (λ (multi : Multi). IsSmallShape multi.shape.nodes multi.shape.edges × AreFlat multi.wheres multi.sets) (multi_meant m (rule_contents rule) kernel) (each multi_at rule.items)
+          (All-from (λ (h : BlockId). IsSmallShape (nodes_in m (declared_nodes rule.items) h) (edges_of_part m (visible_nodes m rule h kernel) (statements rule.items) h) × AreFlat (wheres_in (names_in m rule h) (statements rule.items) h) (sets_in m (names_in m rule h) (visible_nodes m rule h kernel) (statements rule.items) h)) (each multi_at rule.items) (λ k h at.
           let few_here = All-at (IsFewPart rule) (each multi_at rule.items) k h multis at in
           (small_shape m rule clean h kernel (block_opens m rule clean h (multi_block h (All-at (λ (h : BlockId). is_multi h ≡ true) (each multi_at rule.items) k h (are_multis rule.items) at)).0 few_here) few_here, flat m rule h kernel)));
       flat = flat m rule home.Kernel [];

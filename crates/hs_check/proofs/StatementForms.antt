@@ -1,10 +1,11 @@
 -- Statements that mean something in a part of a rule, and what is found through their names.
-use Rattle.std.proofs.Common.{ℕ, ◌≤◌, ◌≡◌, List, true, false, slice_get, Option, Some, None, Ok, Err, nat_le, ap, sym, ◌∙◌, subst}
+use Rattle.std.proofs.Common.{refl, is_some, ℕ, ◌≤◌, ◌≡◌, List, true, false, slice_get, Option, Some, None, Ok, Err, nat_le, ap, sym, ◌∙◌, subst}
 use Rattle.std.proofs.lemmas.Bool.{leb-true}
 use Rattle.std.proofs.lemmas.Option.{none-some, same_Some}
 use Rattle.std.specs.List.{All, position_or_len}
 use Rattle.std.specs.Option.{option_map, option_map_or, unwrap_or}
 use Rattle.hs_eval.specs.Checking.{Names, Outcome, check_tree}
+use Rattle.hs_eval.specs.Naming.{Agrees}
 use Rattle.hs_expr.specs.declared.Expr.{Expr}
 use Rattle.hs_expr.specs.declared.Kind.{Kind}
 use Rattle.hs_expr.specs.declared.Name.{Name}
@@ -16,28 +17,27 @@ use Rattle.hs_expr.specs.NameExprs.{expr_tree}
 use Rattle.hs_types.specs.declared.meta.DataType.{DataType}
 use Rattle.hs_types.specs.declared.meta.Feature.{Feature}
 use Rattle.hs_types.specs.declared.meta.Metamodel.{Metamodel}
-use Rattle.hs_types.specs.declared.rule.Param.{Param}
 use Rattle.hs_types.specs.declared.rule.PatternEdge.{PatternEdge}
 use Rattle.hs_types.specs.declared.rule.PatternNode.{PatternNode}
 use Rattle.hs_types.specs.declared.rule.SetItem.{SetItem}
-use Rattle.hs_expr.specs.Lists.{same_text}
-use Rattle.hs_types.specs.Metamodel.{feature_at, features_of, kind_of_type, type_of}
+use Rattle.hs_expr.specs.Lists.{has, same_text}
+use Rattle.hs_types.specs.Metamodel.{attributes_of, feature_at, features_of, kind_of_type, type_of}
 use Rattle.hs_faults.specs.declared.nodes.DeclaredNode.{DeclaredNode}
 use Rattle.hs_faults.specs.declared.nodes.BlockId.{BlockId}
-use Rattle.hs_faults.specs.Names.{feature_named, is_named, kind_named, type_named}
+use Rattle.hs_faults.specs.Names.{as_attribute, class_attribute, feature_named, is_named}
 use Rattle.hs_faults.specs.Statements.{Statement, Edge, Set, Where}
-use Rattle.hs_faults.specs.StatementFaults.{attribute_kind, same_block}
+use Rattle.hs_faults.specs.StatementFaults.{attribute_of, same_block}
 use Rattle.hs_faults.specs.Marks.{mark_meant}
 use Rattle.hs_check.specs.Elements.{edge_in, edge_meant, feature_number, node_meant, node_number}
-use Rattle.hs_check.specs.Expressions.{expr_found, expr_meant, number_scope, set_in, set_meant, where_in}
+use Rattle.hs_check.specs.Expressions.{expr_found, expr_meant, set_in, set_meant, where_in}
 use Rattle.hs_check.specs.Parameters.{class_meant}
 use Rattle.hs_check.proofs.Lookups.{came, tested}
-use Rattle.hs_check.proofs.ExprKinds.{Follow, IsKnown, fits}
-use Rattle.hs_check.proofs.Edges.{by_class, feature_at_spot, homes_same, node_at_spot}
-use Rattle.hs_check.proofs.Visibility.{Spot, called, spot_called}
+use Rattle.hs_check.proofs.ExprKinds.{IsKnown, fits, inside}
+use Rattle.hs_check.proofs.Edges.{by_class, feature_at_spot, node_at_spot}
+use Rattle.hs_check.proofs.Visibility.{Spot, called, homes_same, spot_called}
 use Rattle.hs_check.proofs.Filters.{find_here}
 use Rattle.hs_check.proofs.NoFaults.{IsOfKind}
-use Rattle.hs_expr.proofs.Items.{option_map-some, text_same}
+use Rattle.hs_expr.proofs.Items.{found-has, has-kept, option_map-some, text_same}
 
 -- ---- expressions
 
@@ -57,12 +57,13 @@ found (Ok x) e is =
 pub expr_flat : (names : Names) (value : NameExpr) (e : Expr) → expr_meant names value ≡ Some e → nesting e ≤ 32
 expr_flat names value e made = (found (check_tree names (expr_tree value)) e made).flat
 
--- An expression by numbers has the kind that was seen, and reads what the scope knows.
-pub expr_fits : (seen named : Names) (scope : Scope) → Follow seen named scope → (value : NameExpr) (k : Kind) (e : Expr) → IsOfKind seen value k → expr_meant named value ≡ Some e → (kind_in scope e ≡ Some k) × All (IsKnown scope) (reads_of e)
-expr_fits seen named scope follows value k e of_kind made =
-    let here = found (check_tree named (expr_tree value)) e made in
-    let fit = fits seen named scope follows (expr_tree value) (of_kind.0, k) (e, here.kind) of_kind.1 here.is in
-    (fit.inside ∙ ap (λ (l : Kind). Some l) fit.same, fit.known)
+-- An expression by numbers has the kind that was checked, and reads what the scope knows.
+pub expr_fits : (names : Names) (scope : Scope) → Agrees names scope → (value : NameExpr) (k : Kind) (e : Expr) → IsOfKind names value k → expr_meant names value ≡ Some e → (kind_in scope e ≡ Some k) × All (IsKnown scope) (reads_of e)
+expr_fits names scope agrees value k e of_kind made =
+    let here = found (check_tree names (expr_tree value)) e made in
+    let same = inside (e, here.kind) (of_kind.0, k) (sym here.is ∙ of_kind.1) in
+    let fit = fits names scope agrees (expr_tree value) (e, here.kind) here.is in
+    (fit.inside ∙ ap (λ (r : Expr × Kind). Some r.1) same, fit.known)
 
 -- ---- statements
 
@@ -94,47 +95,59 @@ where_made names part (Where home word test) e h =
     let here = tested (same_block part home) (expr_meant names test) e h in
     record { word = word; test = test; is = ap (λ p. Where p word test) (sym (homes_same part home here.0)); expr = here.1 }
 
-pub record SetMade (m : Metamodel) (params : List Param) (nodes : List PatternNode) (part : BlockId) (s : Statement) (item : SetItem) : Type 0 where
+pub record SetMade (m : Metamodel) (names : Names) (nodes : List PatternNode) (part : BlockId) (s : Statement) (item : SetItem) : Type 0 where
   pub node : Name
   pub attribute : Name
   pub value : NameExpr
   pub e : Expr
   pub is : s ≡ Set part node attribute value
-  pub expr : expr_meant (number_scope m params nodes) value ≡ Some e
+  pub expr : expr_meant names value ≡ Some e
   pub whole : set_meant m nodes node.text attribute.text e ≡ item
 
-pub set_made : (m : Metamodel) (params : List Param) (nodes : List PatternNode) (part : BlockId) (s : Statement) (item : SetItem) → set_in m params nodes part s ≡ Some item → SetMade m params nodes part s item
-set_made m params nodes part (Edge home mark source target reference) item h = absurd (none-some item h)
-set_made m params nodes part (Set home node attribute value) item h =
-    let here = tested (same_block part home) (option_map (set_meant m nodes node.text attribute.text) (expr_meant (number_scope m params nodes) value)) item h in
-    let e = option_map-some (set_meant m nodes node.text attribute.text) (expr_meant (number_scope m params nodes) value) item here.1 in
+pub set_made : (m : Metamodel) (names : Names) (nodes : List PatternNode) (part : BlockId) (s : Statement) (item : SetItem) → set_in m names nodes part s ≡ Some item → SetMade m names nodes part s item
+set_made m names nodes part (Edge home mark source target reference) item h = absurd (none-some item h)
+set_made m names nodes part (Set home node attribute value) item h =
+    let here = tested (same_block part home) (option_map (set_meant m nodes node.text attribute.text) (expr_meant names value)) item h in
+    let e = option_map-some (set_meant m nodes node.text attribute.text) (expr_meant names value) item here.1 in
     record { node = node; attribute = attribute; value = value; e = e.0; is = ap (λ p. Set p node attribute value) (sym (homes_same part home here.0)); expr = e.1; whole = e.2 }
-set_made m params nodes part (Where home word test) item h = absurd (none-some item h)
+set_made m names nodes part (Where home word test) item h = absurd (none-some item h)
 
 -- ---- names
 
 -- The attribute that a name means at a node.
-pub record AttributeSpot (m : Metamodel) (nodes : List PatternNode) (name attribute : List ℕ) (d : DeclaredNode) (kind : Kind) : Type 0 where
-  pub number : ℕ
-  pub type : DataType
-  pub named : feature_named m (class_meant m d.class.text) attribute ≡ Some number
-  pub typed : type_of m number ≡ Some type
-  pub kind_is : kind_of_type type ≡ kind
-  pub number_is : feature_number m nodes (node_number nodes name) attribute ≡ number
+pub record AttributeSpot (m : Metamodel) (nodes : List PatternNode) (name attribute : List ℕ) (d : DeclaredNode) (a : ℕ × Kind) : Type 0 where
+  pub named : feature_named m (class_meant m d.class.text) attribute ≡ Some a.0
+  pub kind_is : option_map kind_of_type (type_of m a.0) ≡ Some a.1
+  pub number_is : feature_number m nodes (node_number nodes name) attribute ≡ a.0
 
-pub attribute_spot : (m : Metamodel) (nodes : List PatternNode) (name attribute : List ℕ) (d : DeclaredNode) (kind : Kind) → Spot m nodes name d → attribute_kind m d attribute ≡ Some kind → AttributeSpot m nodes name attribute d kind
-attribute_spot m nodes name attribute d kind s e =
+-- A feature that is an attribute, by its number and its kind.
+pub attribute_is : (m : Metamodel) (f : ℕ) (a : ℕ × Kind) → as_attribute m f ≡ Some a → (f ≡ a.0) × (option_map kind_of_type (type_of m a.0) ≡ Some a.1)
+attribute_is m f a e = go (type_of m f) refl e
+  where
+    go : (o : Option DataType) → type_of m f ≡ o → option_map (λ type. (f, kind_of_type type)) o ≡ Some a → (f ≡ a.0) × (option_map kind_of_type (type_of m a.0) ≡ Some a.1)
+    go None at e = absurd (none-some a e)
+    go (Some type) at e =
+        let same = same_Some (f, kind_of_type type) a e in
+        let number : f ≡ a.0 = ap (λ (r : ℕ × Kind). r.0) same in
+        (number, ap (λ n. option_map kind_of_type (type_of m n)) (sym number) ∙ ap (option_map kind_of_type) at ∙ ap (λ (r : ℕ × Kind). Some r.1) same)
+
+-- A class has an attribute that a name finds there.
+pub has_attribute : (m : Metamodel) (class : ℕ) (name : List ℕ) (a : ℕ × Kind) → feature_named m class name ≡ Some a.0 → option_map kind_of_type (type_of m a.0) ≡ Some a.1 → has (attributes_of m class) a.0 ≡ true
+has_attribute m class name a named kind = has-kept (λ f. is_some (type_of m f)) (features_of m class) a.0 (found-has (is_named m name) (features_of m class) a.0 named) (go (type_of m a.0) kind)
+  where
+    go : (o : Option DataType) → option_map kind_of_type o ≡ Some a.1 → is_some o ≡ true
+    go None e = absurd (none-some a.1 e)
+    go (Some type) e = refl
+
+pub attribute_spot : (m : Metamodel) (nodes : List PatternNode) (name attribute : List ℕ) (d : DeclaredNode) (a : ℕ × Kind) → Spot m nodes name d → attribute_of m d attribute ≡ Some a → AttributeSpot m nodes name attribute d a
+attribute_spot m nodes name attribute d a s e =
     let class : ℕ = class_meant m d.class.text in
-    let of_class : kind_named m class attribute ≡ Some kind = by_class m d (λ c. kind_named m c attribute) class kind s.class e in
-    let t = option_map-some kind_of_type (type_named m class attribute) kind of_class in
-    let f = came (feature_named m class attribute) (type_of m) t.0 t.1 in
+    let f = came (feature_named m class attribute) (as_attribute m) a (by_class m d (λ c. class_attribute m c attribute) class a s.class e) in
+    let is = attribute_is m f.0 a f.2 in
     record {
-      number = f.0;
-      type = t.0;
-      named = f.1;
-      typed = f.2;
-      kind_is = t.2;
-      number_is = ap (λ (o : Option ℕ). unwrap_or o 0) (feature_at_spot m nodes (node_number nodes name) attribute (node_meant m d) f.0 (node_at_spot m nodes name d s) f.1);
+      named = f.1 ∙ ap (λ (n : ℕ). Some n) is.0;
+      kind_is = is.1;
+      number_is = ap (λ (o : Option ℕ). unwrap_or o 0) (feature_at_spot m nodes (node_number nodes name) attribute (node_meant m d) f.0 (node_at_spot m nodes name d s) f.1) ∙ is.0;
     }
 
 -- Names of one number are the same.

@@ -4,7 +4,6 @@ use Rattle.std.proofs.lemmas.Bool.{cases_order, false≢true}
 use Rattle.std.proofs.lemmas.Option.{none-some, same_Some}
 use Rattle.std.specs.Option.{option_and_then}
 use Rattle.hs_expr.specs.declared.Name.{Name}
-use Rattle.hs_expr.specs.Equality.{lists_exact, nat_exact}
 use Rattle.hs_text.specs.declared.syntax.Param.{Param as WrittenParam}
 use Rattle.hs_types.specs.declared.meta.Metamodel.{Metamodel}
 use Rattle.hs_types.specs.declared.rule.Param.{Param}

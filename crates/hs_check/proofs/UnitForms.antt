@@ -28,7 +28,7 @@ use Rattle.hs_check.specs.Rules.{rules_meant}
 use Rattle.hs_check.specs.Units.{body_meant, call_meant, callees, count_meant, unit_meant, units_meant}
 use Rattle.hs_check.proofs.Uniqueness.{params_apart}
 use Rattle.hs_check.proofs.Callees.{Found, calls_same, found}
-use Rattle.hs_check.proofs.Params.{in_is}
+use Rattle.hs_check.proofs.Scopes.{in_is}
 use Rattle.hs_check.proofs.NoFaults.{yes_test}
 use Rattle.hs_check.proofs.NoUnitFaults.{CleanText, CleanUnit, faults_of_count}
 use Rattle.hs_check.proofs.Binds.{are_binds, data_is, is_not, named_meant, param_suits}

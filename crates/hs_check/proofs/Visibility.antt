@@ -1,9 +1,10 @@
 -- The nodes that a part of a rule may name, by their numbers there.
-use Rattle.std.proofs.Common.{ℕ, ◌<◌, ◌≤◌, ◌≡◌, ◌⊎◌, ◌++◌, List, [], Bool, true, false, cond, nat_lt, length, slice_get, Option, Some, None, refl, ap, sym, ◌∙◌, inl, inr, arith}
-use Rattle.std.proofs.lemmas.Bool.{cases_Bool, cond-true, false≢true, lt-ltb, or_cases}
+use Rattle.std.proofs.Common.{ℕ, zero, suc, map, take, ◌+◌, ◌∷◌, if◌then◌else◌, zero-add, ◌<◌, ◌≤◌, ◌≡◌, ◌⊎◌, ◌++◌, List, [], Bool, true, false, cond, nat_lt, length, slice_get, Option, Some, None, refl, ap, sym, ◌∙◌, inl, inr, arith}
+use Rattle.std.proofs.lemmas.Bool.{eqb-true, cases_Bool, cond-true, false≢true, lt-ltb, or_cases}
 use Rattle.std.proofs.lemmas.List.Folds.{find-append, find_at}
-use Rattle.std.proofs.lemmas.Option.{slice_get_within}
-use Rattle.std.specs.List.{filter_map, find, position, position_or_len}
+use Rattle.std.proofs.lemmas.List.{length-map}
+use Rattle.std.proofs.lemmas.Option.{none-some, same_Some, slice_get_within}
+use Rattle.std.specs.List.{filter, filter_map, find, position, position_or_len}
 use Rattle.std.specs.Option.{option_and_then, option_or}
 use Rattle.hs_types.specs.declared.meta.Metamodel.{Metamodel}
 use Rattle.hs_types.specs.declared.rule.PatternNode.{PatternNode}
@@ -12,13 +13,15 @@ use Rattle.hs_faults.specs.declared.nodes.DeclaredNode.{DeclaredNode}
 use Rattle.hs_faults.specs.declared.nodes.BlockId.{BlockId}
 use Rattle.hs_faults.specs.declared.nodes.BlockId.TheVariants as home
 use Rattle.hs_faults.specs.Names.{class_number, node_named, as_number}
+use Rattle.hs_faults.specs.Numbers.{count_in, first_number, number_of_node, number_at}
 use Rattle.hs_faults.specs.ParamNodes.{is_kernel}
 use Rattle.hs_faults.specs.StatementFaults.{visible_node, same_block}
 use Rattle.hs_check.specs.Elements.{node_found, node_meant, nodes_in}
 use Rattle.hs_check.specs.Parameters.{class_meant}
 use Rattle.hs_check.proofs.Uniqueness.{HaveOwn, only_one, opened}
-use Rattle.hs_check.proofs.Filters.{All-filter_map, filtered, find-filter_map, find_here, found_behind, passes, where_passes}
+use Rattle.hs_check.proofs.Filters.{All-filter_map, filtered, find-filter_map, find_here, found_behind, passes, slice_get-behind, where_passes}
 use Rattle.hs_expr.proofs.Items.{find_none}
+use Rattle.hs_expr.proofs.Lists.{slice_get-first}
 
 -- The test that a node of a pattern has this name.
 abbrev pub called : List ℕ → PatternNode → Bool
@@ -91,22 +94,66 @@ pub record Spot (m : Metamodel) (nodes : List PatternNode) (name : List ℕ) (d 
 pub record Opens (m : Metamodel) (ds : List DeclaredNode) (part : BlockId) (before : List PatternNode) : Type 0 where
   pub found : (name : List ℕ) (d : DeclaredNode) → visible_node ds part name ≡ Some d → Spot m (before ++ nodes_in m ds part) name d
   pub own : (name : List ℕ) (d : DeclaredNode) → visible_node ds part name ≡ Some d → same_block part d.block ≡ true → length before ≤ position_or_len (called name) (before ++ nodes_in m ds part)
+  pub numbered : (name : List ℕ) (d : DeclaredNode) → visible_node ds part name ≡ Some d → slice_get (before ++ nodes_in m ds part) d.number ≡ Some (node_meant m d)
 
 pub kernel_home : (h : BlockId) → same_block home.Kernel h ≡ is_kernel h
 kernel_home home.Kernel = refl
 kernel_home (home.Pattern i) = refl
 kernel_home (home.Multi i) = refl
 
+-- The node's number is that of its place among the nodes of its part, which come after the kernel's.
+abbrev pub AreNumbered : List DeclaredNode → Type 0
+AreNumbered ds = (k : ℕ) (d : DeclaredNode) → slice_get ds k ≡ Some d → d.number ≡ number_of_node ds (take k ds) d
+
+-- What is made of an item stands where as many are counted before it.
+pub counted_at : {A B : Type 0} (p : A → Bool) (f : A → B) (xs : List A) (k : ℕ) (x : A) → slice_get xs k ≡ Some x → p x ≡ true → slice_get (map f (filter p xs)) (length (filter p (take k xs))) ≡ Some (f x)
+counted_at p f [] k x at e = absurd (none-some x at)
+counted_at {A} {B} p f (y ∷ xs) zero x at e = go (p y) (ap p (same_Some y x at) ∙ e)
+  where
+    go : (b : Bool) → b ≡ true → slice_get (map f (cond b (y ∷ filter p xs) (filter p xs))) 0 ≡ Some (f x)
+    go true is = ap (λ z. Some (f z)) (same_Some y x at)
+    go false is = absurd (false≢true is)
+counted_at {A} {B} p f (y ∷ xs) (suc k) x at e = go (p y) (counted_at p f xs k x at e)
+  where
+    go : (b : Bool) → slice_get (map f (filter p xs)) (length (filter p (take k xs))) ≡ Some (f x) →
+        slice_get (map f (cond b (y ∷ filter p xs) (filter p xs))) (length (cond b (y ∷ filter p (take k xs)) (filter p (take k xs)))) ≡ Some (f x)
+    go true rest = rest
+    go false rest = rest
+
+-- A node stands at its number.
+number_here : {A : Type 0} (nodes : List A) (x : A) (place number : ℕ) → length nodes ≤ 65536 → slice_get nodes place ≡ Some x → number ≡ number_at place → slice_get nodes number ≡ Some x
+number_here nodes x place number few at is =
+    let low = slice_get_within nodes place x at in
+    let same : number ≡ place = omega arith in
+    ap (slice_get nodes) same ∙ at
+
+kernel_is : (h : BlockId) → is_kernel h ≡ true → h ≡ home.Kernel
+kernel_is home.Kernel e = refl
+kernel_is (home.Pattern i) e = absurd (false≢true e)
+kernel_is (home.Multi i) e = absurd (false≢true e)
+
+-- Nodes of the kernel have their places there for numbers.
+kernel_number : (m : Metamodel) (ds : List DeclaredNode) → AreNumbered ds → (k : ℕ) (d : DeclaredNode) → slice_get ds k ≡ Some d → is_kernel d.block ≡ true →
+    (place : ℕ) × (slice_get (nodes_in m ds home.Kernel) place ≡ Some (node_meant m d)) × (d.number ≡ number_at place)
+kernel_number m ds numbered k d at kernel = (
+  count_in (take k ds) home.Kernel,
+  counted_at (λ (node : DeclaredNode). same_block home.Kernel node.block) (node_meant m) ds k d at (kernel_home d.block ∙ kernel),
+  numbered k d at ∙ ap (λ (h : BlockId). number_at (first_number ds h + count_in (take k ds) h)) (kernel_is d.block kernel) ∙ ap number_at (zero-add (count_in (take k ds) home.Kernel)),
+)
+
+pub homes_same : (g h : BlockId) → same_block g h ≡ true → g ≡ h
+homes_same home.Kernel home.Kernel e = refl
+homes_same home.Kernel (home.Pattern j) e = cc
+homes_same home.Kernel (home.Multi j) e = cc
+homes_same (home.Pattern i) home.Kernel e = cc
+homes_same (home.Pattern i) (home.Pattern j) e = ap home.Pattern (eqb-true i j e)
+homes_same (home.Pattern i) (home.Multi j) e = cc
+homes_same (home.Multi i) home.Kernel e = cc
+homes_same (home.Multi i) (home.Pattern j) e = cc
+homes_same (home.Multi i) (home.Multi j) e = ap home.Multi (eqb-true i j e)
+
 homes_alike : (g h : BlockId) → same_block g h ≡ true → is_kernel h ≡ is_kernel g
-homes_alike home.Kernel home.Kernel e = refl
-homes_alike home.Kernel (home.Pattern j) e = cc
-homes_alike home.Kernel (home.Multi j) e = cc
-homes_alike (home.Pattern i) home.Kernel e = cc
-homes_alike (home.Pattern i) (home.Pattern j) e = refl
-homes_alike (home.Pattern i) (home.Multi j) e = refl
-homes_alike (home.Multi i) home.Kernel e = cc
-homes_alike (home.Multi i) (home.Pattern j) e = refl
-homes_alike (home.Multi i) (home.Multi j) e = refl
+homes_alike g h e = ap is_kernel (sym (homes_same g h e))
 
 spot : (m : Metamodel) (ds : List DeclaredNode) → AllClassed m ds → (nodes : List PatternNode) → length nodes ≤ 65536 → (name : List ℕ) (d : DeclaredNode) → node_named ds name ≡ Some d → find (called name) nodes ≡ Some (node_meant m d) → Spot m nodes name d
 spot m ds all nodes few name d named found =
@@ -114,20 +161,28 @@ spot m ds all nodes few name d named found =
     let there = place_there (called name) nodes (node_meant m d) few found in
     record { number_is = there.0; at = there.1; class = all here.0 d here.1 }
 
-pub opens_kernel : (m : Metamodel) (ds : List DeclaredNode) → AllClassed m ds → length (nodes_in m ds home.Kernel) ≤ 65536 → Opens m ds home.Kernel []
-opens_kernel m ds all few = record { found = there; own = λ name d e here. omega arith }
+pub opens_kernel : (m : Metamodel) (ds : List DeclaredNode) → AllClassed m ds → AreNumbered ds → length (nodes_in m ds home.Kernel) ≤ 65536 → Opens m ds home.Kernel []
+opens_kernel m ds all numbered few = record { found = there; own = λ name d e here. omega arith; numbered = at }
   where
+    inside : (name : List ℕ) (d : DeclaredNode) → visible_node ds home.Kernel name ≡ Some d → same_block home.Kernel d.block ≡ true
+    inside name d e = elim (or_cases (is_kernel d.block) (same_block home.Kernel d.block) (opened ds home.Kernel name d e).1) [
+      | inl kernel ↦ kernel_home d.block ∙ kernel
+      | inr same ↦ same
+    ]
+
     there : (name : List ℕ) (d : DeclaredNode) → visible_node ds home.Kernel name ≡ Some d → Spot m (nodes_in m ds home.Kernel) name d
     there name d e =
         let is = opened ds home.Kernel name d e in
-        let here : same_block home.Kernel d.block ≡ true = elim (or_cases (is_kernel d.block) (same_block home.Kernel d.block) is.1) [
-          | inl kernel ↦ kernel_home d.block ∙ kernel
-          | inr same ↦ same
-        ] in
-        spot m ds all (nodes_in m ds home.Kernel) few name d is.0 (found_in m ds home.Kernel name d is.0 here)
+        spot m ds all (nodes_in m ds home.Kernel) few name d is.0 (found_in m ds home.Kernel name d is.0 (inside name d e))
 
-pub opens_block : (m : Metamodel) (ds : List DeclaredNode) → HaveOwn (λ (node : DeclaredNode). node.name) ds → AllClassed m ds → (part : BlockId) → is_kernel part ≡ false → length (nodes_in m ds home.Kernel ++ nodes_in m ds part) ≤ 65536 → Opens m ds part (nodes_in m ds home.Kernel)
-opens_block m ds own all part block few = record { found = there; own = λ name d e here. found_behind (called name) (nodes_in m ds home.Kernel) (nodes_in m ds part) (not_in m ds own home.Kernel name d (opened ds part name d e).0 (away d here)) }
+    at : (name : List ℕ) (d : DeclaredNode) → visible_node ds home.Kernel name ≡ Some d → slice_get (nodes_in m ds home.Kernel) d.number ≡ Some (node_meant m d)
+    at name d e =
+        let here = find_here (λ (node : DeclaredNode). same_text name node.name.text) ds d (opened ds home.Kernel name d e).0 in
+        let number = kernel_number m ds numbered here.0 d here.1 (sym (kernel_home d.block) ∙ inside name d e) in
+        number_here (nodes_in m ds home.Kernel) (node_meant m d) number.0 d.number few number.1 number.2
+
+pub opens_block : (m : Metamodel) (ds : List DeclaredNode) → HaveOwn (λ (node : DeclaredNode). node.name) ds → AllClassed m ds → AreNumbered ds → (part : BlockId) → is_kernel part ≡ false → length (nodes_in m ds home.Kernel ++ nodes_in m ds part) ≤ 65536 → Opens m ds part (nodes_in m ds home.Kernel)
+opens_block m ds own all numbered part block few = record { found = there; numbered = at; own = λ name d e here. found_behind (called name) (nodes_in m ds home.Kernel) (nodes_in m ds part) (not_in m ds own home.Kernel name d (opened ds part name d e).0 (away d here)) }
   where
     away : (d : DeclaredNode) → same_block part d.block ≡ true → same_block home.Kernel d.block ≡ false
     away d here = kernel_home d.block ∙ homes_alike part d.block here ∙ block
@@ -145,6 +200,26 @@ opens_block m ds own all part block few = record { found = there; own = λ name 
     there name d e =
         let is = opened ds part name d e in
         spot m ds all (nodes_in m ds home.Kernel ++ nodes_in m ds part) few name d is.0 (joined name d is.0 (or_cases (is_kernel d.block) (same_block part d.block) is.1))
+
+    at : (name : List ℕ) (d : DeclaredNode) → visible_node ds part name ≡ Some d → slice_get (nodes_in m ds home.Kernel ++ nodes_in m ds part) d.number ≡ Some (node_meant m d)
+    at name d e =
+        let is = opened ds part name d e in
+        let here = find_here (λ (node : DeclaredNode). same_text name node.name.text) ds d is.0 in
+        let kernel = nodes_in m ds home.Kernel in
+        elim (or_cases (is_kernel d.block) (same_block part d.block) is.1) [
+          | inl in_kernel ↦
+              let number = kernel_number m ds numbered here.0 d here.1 in_kernel in
+              number_here (kernel ++ nodes_in m ds part) (node_meant m d) number.0 d.number few
+              (slice_get-first kernel (nodes_in m ds part) number.0 (slice_get_within kernel number.0 (node_meant m d) number.1) ∙ number.1) number.2
+          | inr of_part ↦
+              let place : ℕ = count_in (take here.0 ds) part in
+              let one : d.block ≡ part = sym (homes_same part d.block of_part) in
+              let many : length kernel ≡ count_in ds home.Kernel = length-map (filter (λ (node : DeclaredNode). same_block home.Kernel node.block) ds) (node_meant m) in
+              number_here (kernel ++ nodes_in m ds part) (node_meant m d) (length kernel + place) d.number few
+              (slice_get-behind kernel (nodes_in m ds part) place (length kernel + place) refl ∙ counted_at (λ (node : DeclaredNode). same_block part node.block) (node_meant m) ds here.0 d here.1 of_part)
+              (numbered here.0 d here.1 ∙ ap (λ (h : BlockId). number_at (first_number ds h + count_in (take here.0 ds) h)) one
+              ∙ ap (λ (b : Bool). number_at ((if b then 0 else count_in ds home.Kernel) + place)) block ∙ ap (λ n. number_at (n + place)) (sym many))
+        ]
 
 -- What stands at the number of a name has the name.
 pub spot_called : (nodes : List PatternNode) (name : List ℕ) (p : PatternNode) → slice_get nodes (position_or_len (called name) nodes) ≡ Some p → called name p ≡ true

@@ -12,7 +12,6 @@ mod elements;
 mod examples;
 mod expressions;
 mod laws;
-mod number_scope;
 mod parameters;
 mod rules;
 mod slots;

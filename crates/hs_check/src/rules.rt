@@ -10,9 +10,10 @@ ghost use Rattle.hs_check.specs.Slots.{slots_from};
 
 use crate::block::{Block, block_meant, multi_meant, part_meant};
 use crate::contents::{RuleContents, rule_contents};
+use crate::parameters::params_meant;
 use crate::slots::{add_reads_in, slots_from};
 use hs_expr::{List, SlotRead};
-use hs_faults::BlockId;
+use hs_faults::{BlockId, data_params, declared_nodes};
 use hs_text::{Definition, Item, Rule as WrittenRule};
 use hs_types::{Meta, Multi, Part, PatternNode, PatternSlot, Rule, Shape};
 use std::alloc::{AllocError, Global};
@@ -168,18 +169,18 @@ fn rule_with(
     alloc: Global,
     meta: &Meta,
     rule: &WrittenRule,
-    contents: RuleContents<'_>,
+    contents: &RuleContents<'_>,
     kernel: Block,
     multis: List<Multi>,
 ) -> Result<Rule, AllocError>
-    ensures { IfOk result (λ meant. meant ≡ spec.rule_with meta.now rule.now contents.entry kernel multis) }
+    ensures { IfOk result (λ meant. meant ≡ spec.rule_with meta.now rule.now contents.now kernel multis) }
 {
     let slots = kernel_slots(alloc, meta, &kernel, multis.as_slice())?;
-    let forbids = forbids_meant(alloc, meta, rule, &contents, kernel.nodes.as_slice())?;
-    let needs = needs_meant(alloc, meta, rule, &contents, kernel.nodes.as_slice())?;
+    let forbids = forbids_meant(alloc, meta, rule, contents, kernel.nodes.as_slice())?;
+    let needs = needs_meant(alloc, meta, rule, contents, kernel.nodes.as_slice())?;
     Ok(Rule {
         name: rule.name.text.clone()?,
-        params: contents.params,
+        params: params_meant(alloc, meta, rule.params.as_slice())?,
         shape: Shape {
             nodes: kernel.nodes,
             edges: kernel.edges,
@@ -198,20 +199,34 @@ fn rule_around(
     alloc: Global,
     meta: &Meta,
     rule: &WrittenRule,
-    contents: RuleContents<'_>,
+    contents: &RuleContents<'_>,
     kernel: Block,
 ) -> Result<Rule, AllocError>
-    ensures { IfOk result (λ meant. meant ≡ spec.rule_around meta.now rule.now contents.entry kernel) }
+    ensures { IfOk result (λ meant. meant ≡ spec.rule_around meta.now rule.now contents.now kernel) }
 {
-    let multis = multis_meant(alloc, meta, rule, &contents, kernel.nodes.as_slice())?;
+    let multis = multis_meant(alloc, meta, rule, contents, kernel.nodes.as_slice())?;
     rule_with(alloc, meta, rule, contents, kernel, multis)
 }
 
 fn rule_meant(alloc: Global, meta: &Meta, rule: &WrittenRule) -> Result<Rule, AllocError>
     ensures { IfOk result (λ meant. meant ≡ spec.rule_meant meta.now rule.now) }
 {
-    let contents = rule_contents(alloc, meta, rule)?;
-    let kernel = block_meant(alloc, meta, &contents, &[], BlockId::Kernel)?;
+    let params = data_params(alloc, rule.params.as_slice())?;
+    let nodes = declared_nodes(alloc, rule.items.as_slice())?;
+    let contents = rule_contents(alloc, rule, params.as_slice(), nodes.as_slice())?;
+    rule_from(alloc, meta, rule, &contents)
+}
+
+/// The rule that declares and says this.
+fn rule_from(
+    alloc: Global,
+    meta: &Meta,
+    rule: &WrittenRule,
+    contents: &RuleContents<'_>,
+) -> Result<Rule, AllocError>
+    ensures { IfOk result (λ meant. meant ≡ spec.rule_from meta.now rule.now contents.now) }
+{
+    let kernel = block_meant(alloc, meta, contents, &[], BlockId::Kernel)?;
     rule_around(alloc, meta, rule, contents, kernel)
 }
 

@@ -3,12 +3,12 @@
 ghost use Rattle.std.specs.Prelude.{◌≡◌, ◌++◌, ◌∷◌, [], IfOk, OnOk, false, length};
 ghost use Rattle.std.specs.List.{flat_map};
 ghost use Rattle.hs_expr.specs.Evaluation.{reads_of};
+ghost use Rattle.hs_types.specs.Pattern.{is_left};
 ghost use Rattle.hs_types.specs.RuleForm.{is_read, is_set, reads_in};
 ghost use Rattle.hs_check.specs.Slots as spec;
 
-use crate::number_scope::is_left;
 use hs_expr::{Expr, List, SlotRead};
-use hs_types::{FeatureNo, Meta, PatternNode, PatternSlot, SetItem, SlotKind};
+use hs_types::{FeatureNo, Mark, Meta, PatternNode, PatternSlot, SetItem, SlotKind};
 use std::alloc::{AllocError, Global};
 
 /// Adds the slots that the expression reads.
@@ -114,6 +114,12 @@ fn add_slots_among(
         add_slot(slots, meta, reads, sets, node, *feature)?;
     }
     Ok(())
+}
+
+fn is_left(mark: Mark) -> bool
+    ensures { result ≡ is_left mark }
+{
+    mark != Mark::Make
 }
 
 /// Adds the slots of the node at this place.

@@ -18,9 +18,9 @@ use Rattle.hs_expr.specs.Evaluation.{binary_kind, not_kind, minus_kind, nesting}
 use Rattle.hs_expr.specs.Steps.{◌>>=◌, demand, needed, Fails}
 use Rattle.hs_expr.specs.Trees.{Tree, Leaf, Not, Minus, Binary, trees_after_piece, trees_after, only_tree, tree_of}
 use Rattle.hs_eval.specs.declared.fault.ExprFault.{ExprFault}
-use Rattle.hs_eval.specs.declared.fault.Wrong.TheVariants.{NotRead}
+use Rattle.hs_eval.specs.declared.fault.Wrong.TheVariants.{NotRead, UnknownAttribute}
 use Rattle.hs_eval.specs.declared.operand.Operand.{Operand}
-use Rattle.hs_eval.specs.Checking.{Names, Outcome, attribute_read, check_tree, junction, leaf, negation, opposition, param_read, slot_read, wrong_at}
+use Rattle.hs_eval.specs.Checking.{Names, Outcome, check_tree, junction, leaf, negation, opposition, param_read, slot_read, wrong_at}
 use Rattle.hs_eval.specs.Results.{checked_of, ok_map}
 use Rattle.hs_eval.specs.Stacks.{Pile, leaf_operand, operand_of, binary_operand, not_operand, push, minus_operand, checked_operand, stack_after_all, stack_after, shallow_of}
 use Rattle.hs_expr.proofs.Evaluations.{nesting-Literal, nesting-Param, nesting-Slot}
@@ -64,14 +64,16 @@ needed-bare (Some x) fault next h = h x
 param-bare : (names : Names) (name : Name) → HeldBare (param_read names name)
 param-bare names name = needed-bare (names.param name.text) _ _ (λ p. bare-held p.1 (expr.Param p.0) (nesting-Param p.0))
 
-attribute-bare : (names : Names) (node : ℕ) (name : Name) → HeldBare (attribute_read names node name)
-attribute-bare names node name =
-    needed-bare (names.attribute node name.text) _ _ (λ a. bare-held a.1 (expr.Slot (record { node = node; attribute = a.0 })) (nesting-Slot _))
+abbrev read_as : Expr × Kind → Outcome
+read_as x = Ok x
 
 slot-bare : (names : Names) (owner name : Name) → HeldBare (slot_read names owner name)
 slot-bare names owner name = needed-bare (names.node owner.text) _ _ here where
-  here : (n : ℕ × Bool) → HeldBare (demand n.1 (wrong_at owner.span NotRead) >>= λ _. attribute_read names n.0 name)
-  here (n, true) = attribute-bare names n name
+  read : ℕ → Outcome
+  read n = needed (names.attribute owner.text name.text) (wrong_at name.span UnknownAttribute) >>= (λ (a : ℕ × Kind). read_as (expr.Slot (record { node = n; attribute = a.0 }), a.1))
+
+  here : (n : ℕ × Bool) → HeldBare (demand n.1 (wrong_at owner.span NotRead) >>= (λ (u : Unit {0}). read n.0))
+  here (n, true) = needed-bare (names.attribute owner.text name.text) _ _ (λ a. bare-held a.1 (expr.Slot (record { node = n; attribute = a.0 })) (nesting-Slot _))
   here (n, false) = refl
 
 leaf-bare : (names : Names) (p : Piece) → HeldBare (leaf names p)

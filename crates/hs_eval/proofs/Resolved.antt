@@ -14,8 +14,8 @@ use Rattle.hs_expr.proofs.Evaluations.{kind_in-Binary, kind_in-Literal, kind_in-
 use Rattle.hs_expr.specs.Steps.{◌>>=◌, demand, needed}
 use Rattle.hs_expr.specs.Trees.{Tree, Leaf, Not, Minus, Binary}
 use Rattle.hs_eval.specs.declared.fault.ExprFault.{ExprFault}
-use Rattle.hs_eval.specs.declared.fault.Wrong.TheVariants.{NotRead}
-use Rattle.hs_eval.specs.Checking.{Names, Outcome, attribute_read, check_tree, leaf, param_read, slot_read, wrong_at}
+use Rattle.hs_eval.specs.declared.fault.Wrong.TheVariants.{NotRead, UnknownAttribute}
+use Rattle.hs_eval.specs.Checking.{Names, Outcome, check_tree, leaf, param_read, slot_read, wrong_at}
 use Rattle.hs_eval.specs.Naming.{Agrees, value_by_names}
 
 abbrev well : Expr × Kind → Outcome
@@ -34,14 +34,25 @@ steps-ok : (c : Outcome) (next : Expr × Kind → Outcome) (r : Expr × Kind) �
 steps-ok (Err f) next r e = cc
 steps-ok (Ok x) next r e = (x, refl, e)
 
--- what a slot that is read was found by
-slot-ok : (names : Names) (owner name : Name) (r : Expr × Kind) → slot_read names owner name ≡ Ok r →
-    (n : ℕ × Bool) × (names.node owner.text ≡ Some n) × (attribute_read names n.0 name ≡ Ok r)
-slot-ok names owner name r e = go (needed-ok (names.node owner.text) _ _ r e) where
-  go : ((n : ℕ × Bool) × (names.node owner.text ≡ Some n) × ((demand n.1 (wrong_at owner.span NotRead) >>= λ _. attribute_read names n.0 name) ≡ Ok r)) →
-      (n : ℕ × Bool) × (names.node owner.text ≡ Some n) × (attribute_read names n.0 name ≡ Ok r)
-  go ((n, true), w, h) = ((n, true), w, h)
-  go ((n, false), w, h) = cc
+-- What a slot that is read was found by: its node, which is on the left side, and its attribute.
+pub record SlotFound (names : Names) (owner name : Name) (r : Expr × Kind) : Type 0 where
+  pub n : ℕ
+  pub a : ℕ × Kind
+  pub node : names.node owner.text ≡ Some (n, true)
+  pub attribute : names.attribute owner.text name.text ≡ Some a
+  pub whole : (expr.Slot (record { node = n; attribute = a.0 }), a.1) ≡ r
+
+pub slot_found : (names : Names) (owner name : Name) (r : Expr × Kind) → slot_read names owner name ≡ Ok r → SlotFound names owner name r
+slot_found names owner name r e = let n = needed-ok (names.node owner.text) _ _ r e in go n.0 n.1 n.2
+  where
+    read : ℕ → Outcome
+    read n = needed (names.attribute owner.text name.text) (wrong_at name.span UnknownAttribute) >>= (λ (a : ℕ × Kind). well (expr.Slot (record { node = n; attribute = a.0 }), a.1))
+
+    go : (n : ℕ × Bool) → names.node owner.text ≡ Some n → (demand n.1 (wrong_at owner.span NotRead) >>= (λ (u : Unit {0}). read n.0)) ≡ Ok r → SlotFound names owner name r
+    go (n, true) is h =
+        let a = needed-ok (names.attribute owner.text name.text) _ _ r h in
+        record { n = n; a = a.0; node = is; attribute = a.1; whole = inside (expr.Slot (record { node = n; attribute = a.0.0 }), a.0.1) r a.2 }
+    go (n, false) is h = cc
 
 -- VALUES
 
@@ -56,12 +67,11 @@ param-same names env name r e =
 
 slot-same : (names : Names) (env : Env) (owner name : Name) (r : Expr × Kind) → slot_read names owner name ≡ Ok r → Same names env (Leaf (piece.Slot owner name)) r
 slot-same names env owner name r e =
-    let n = slot-ok names owner name r e in
-    let a = needed-ok (names.attribute n.0.0 name.text) _ _ r n.2 in
-    subst (Same names env (Leaf (piece.Slot owner name))) (inside (expr.Slot (record { node = n.0.0; attribute = a.0.0 }), a.0.1) r a.2)
-    (value_of-Slot env (record { node = n.0.0; attribute = a.0.0 })
-    ∙ sym (ap (option_and_then (λ a. env.slot n.0.0 a.0)) a.1)
-    ∙ sym (ap (option_and_then (λ n. option_and_then (λ a. env.slot n.0 a.0) (names.attribute n.0 name.text))) n.1))
+    let f = slot_found names owner name r e in
+    subst (Same names env (Leaf (piece.Slot owner name))) f.whole
+    (value_of-Slot env (record { node = f.n; attribute = f.a.0 })
+    ∙ sym (ap (option_and_then (λ a. env.slot f.n a.0)) f.attribute)
+    ∙ sym (ap (option_and_then (λ n. option_and_then (λ a. env.slot n.0 a.0) (names.attribute owner.text name.text))) f.node))
 
 leaf-same : (names : Names) (env : Env) (p : Piece) (r : Expr × Kind) → leaf names p ≡ Ok r → Same names env (Leaf p) r
 leaf-same names env (piece.Int n span) r e = subst (Same names env (Leaf (piece.Int n span))) (inside (expr.Literal (value.Int n), kind.Int) r e) (value_of-Literal env (value.Int n))
@@ -106,10 +116,9 @@ leaf-kinded names scope h (piece.Name name) r e =
     let f = needed-ok (names.param name.text) _ _ r e in
     subst (Kinded scope) (inside (expr.Param f.0.0, f.0.1) r f.2) (kind_in-Param scope f.0.0 ∙ h.params name.text f.0.0 f.0.1 f.1)
 leaf-kinded names scope h (piece.Slot owner name) r e =
-    let n = slot-ok names owner name r e in
-    let a = needed-ok (names.attribute n.0.0 name.text) _ _ r n.2 in
-    subst (Kinded scope) (inside (expr.Slot (record { node = n.0.0; attribute = a.0.0 }), a.0.1) r a.2)
-    (kind_in-Slot scope (record { node = n.0.0; attribute = a.0.0 }) ∙ h.attributes n.0.0 name.text a.0.0 a.0.1 a.1)
+    let f = slot_found names owner name r e in
+    subst (Kinded scope) f.whole
+    (kind_in-Slot scope (record { node = f.n; attribute = f.a.0 }) ∙ h.slots owner.text name.text f.n f.a.0 f.a.1 f.node f.attribute)
 leaf-kinded names scope h (piece.Not span) r e = cc
 leaf-kinded names scope h (piece.Minus span) r e = cc
 leaf-kinded names scope h (piece.Binary sign span) r e = cc

@@ -17,11 +17,11 @@ use Rattle.hs_expr.specs.Evaluation.{binary_kind, not_kind, minus_kind}
 use Rattle.hs_expr.specs.Steps.{◌>>=◌, demand, needed}
 use Rattle.hs_expr.specs.Trees.{Tree, Leaf, Not, Minus, Binary}
 
--- What names stand for in expressions: a data parameter's number and kind; a node's number, and whether it is on the left side; and, by the number of its node, an attribute's number and kind.
+-- What names stand for in expressions: a data parameter's number and kind; a node's number, and whether it is on the left side; and, by the name of its node and its own, an attribute's number and kind.
 pub record Names : Type 0 where
   pub param : List ℕ → Option (ℕ × Kind)
   pub node : List ℕ → Option (ℕ × Bool)
-  pub attribute : ℕ → List ℕ → Option (ℕ × Kind)
+  pub attribute : List ℕ → List ℕ → Option (ℕ × Kind)
 
 -- A checked expression with its kind, or the first fault.
 abbrev pub Outcome : Type 0
@@ -37,18 +37,13 @@ param_read names name = do
   p ← needed (names.param name.text) (wrong_at name.span UnknownName)
   Ok (expr.Param p.0, p.1)
 
--- The attribute that is read at a node of this number.
-abbrev pub attribute_read : Names → ℕ → Name → Outcome
-attribute_read names number name = do
-  a ← needed (names.attribute number name.text) (wrong_at name.span UnknownAttribute)
-  Ok (expr.Slot (record { node = number; attribute = a.0 }), a.1)
-
 -- The slot that is read: its node is one that is known, and is on the left side; its attribute is one of the node's.
 abbrev pub slot_read : Names → Name → Name → Outcome
 slot_read names owner name = do
   n ← needed (names.node owner.text) (wrong_at owner.span UnknownNode)
   _ ← demand n.1 (wrong_at owner.span NotRead)
-  attribute_read names n.0 name
+  a ← needed (names.attribute owner.text name.text) (wrong_at name.span UnknownAttribute)
+  Ok (expr.Slot (record { node = n.0; attribute = a.0 }), a.1)
 
 -- A part without operands. An operator isn't one: it misses operands of its kind.
 abbrev pub leaf : Names → Piece → Outcome

@@ -1,5 +1,5 @@
 -- What an expression by names means, with no checking in between.
-use Rattle.std.specs.Prelude.{ℕ, ◌≡◌, List, Option, Some, None}
+use Rattle.std.specs.Prelude.{ℕ, ◌≡◌, List, Option, Some, None, true}
 use Rattle.std.specs.Option.{option_and_then}
 use Rattle.hs_eval.specs.Checking.{Names}
 use Rattle.hs_expr.specs.declared.Kind.{Kind}
@@ -17,7 +17,7 @@ leaf_value names env (piece.Text t span) = Some (value.Text t)
 leaf_value names env (piece.Bool b span) = Some (value.Bool b)
 leaf_value names env (piece.Name name) = option_and_then (λ p. env.param p.0) (names.param name.text)
 leaf_value names env (piece.Slot owner name) =
-    option_and_then (λ n. option_and_then (λ a. env.slot n.0 a.0) (names.attribute n.0 name.text)) (names.node owner.text)
+    option_and_then (λ n. option_and_then (λ a. env.slot n.0 a.0) (names.attribute owner.text name.text)) (names.node owner.text)
 leaf_value names env (piece.Not span) = None
 leaf_value names env (piece.Minus span) = None
 leaf_value names env (piece.Binary sign span) = None
@@ -33,4 +33,4 @@ value_by_names names env (Binary sign span a b) =
 -- The numbers have the kinds that the names are said to have.
 pub record Agrees (names : Names) (scope : Scope) : Type 0 where
   pub params : (name : List ℕ) (n : ℕ) (k : Kind) → names.param name ≡ Some (n, k) → scope.param n ≡ Some k
-  pub attributes : (node : ℕ) (name : List ℕ) (a : ℕ) (k : Kind) → names.attribute node name ≡ Some (a, k) → scope.slot node a ≡ Some k
+  pub slots : (owner name : List ℕ) (n a : ℕ) (k : Kind) → names.node owner ≡ Some (n, true) → names.attribute owner name ≡ Some (a, k) → scope.slot n a ≡ Some k

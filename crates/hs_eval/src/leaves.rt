@@ -1,7 +1,7 @@
 //! The parts of an expression that have no operands.
 
 ghost use Rattle.hs_expr.specs.Steps.{Gives};
-ghost use Rattle.hs_eval.specs.Checking.{attribute_read, leaf, param_read, slot_read};
+ghost use Rattle.hs_eval.specs.Checking.{leaf, param_read, slot_read};
 ghost use Rattle.hs_eval.specs.Results.{ok_map};
 ghost use Rattle.hs_eval.specs.Stacks.{leaf_operand};
 
@@ -20,20 +20,6 @@ fn param_read<C: Scope>(name: &Name, scope: &C) -> Result<(Expr, Kind), Failure<
     Ok((Expr::Param(number), kind))
 }
 
-fn attribute_read<C: Scope>(
-    node: u16,
-    name: &Name,
-    scope: &C,
-) -> Result<(Expr, Kind), Failure<ExprFault>>
-    ensures { Gives result (attribute_read (C.names scope.now) node name.now) }
-{
-    let (attribute, kind) = needed(
-        scope.attribute(node, name.text.as_str()),
-        wrong_at(name.span, Wrong::UnknownAttribute),
-    )?;
-    Ok((Expr::Slot(SlotRead { node, attribute }), kind))
-}
-
 fn slot_read<C: Scope>(
     owner: &Name,
     name: &Name,
@@ -46,7 +32,11 @@ fn slot_read<C: Scope>(
         wrong_at(owner.span, Wrong::UnknownNode),
     )?;
     demand(is_left, wrong_at(owner.span, Wrong::NotRead))?;
-    attribute_read(node, name, scope)
+    let (attribute, kind) = needed(
+        scope.attribute(owner.text.as_str(), name.text.as_str()),
+        wrong_at(name.span, Wrong::UnknownAttribute),
+    )?;
+    Ok((Expr::Slot(SlotRead { node, attribute }), kind))
 }
 
 fn read<C: Scope>(piece: &Piece, scope: &C) -> Result<(Expr, Kind), Failure<ExprFault>>

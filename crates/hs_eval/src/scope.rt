@@ -18,7 +18,7 @@ pub trait Scope {
     fn node(&self, name: &str) -> Option<(u16, bool)>
         ensures { result ≡ checking.Names.node (names self.now) name.now };
 
-    /// The number and the kind of the attribute of this name, of the node of this number.
-    fn attribute(&self, node: u16, name: &str) -> Option<(u16, Kind)>
-        ensures { result ≡ checking.Names.attribute (names self.now) node name.now };
+    /// The number and the kind of the attribute of this name, of the node of that name.
+    fn attribute(&self, node: &str, name: &str) -> Option<(u16, Kind)>
+        ensures { result ≡ checking.Names.attribute (names self.now) node.now name.now };
 }

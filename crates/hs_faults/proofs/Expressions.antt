@@ -1,5 +1,5 @@
 -- What is checked of an expression, its fault as a rule's.
-use Rattle.std.proofs.Common.{if◌then◌else◌, ◌≡◌, Bool, true, false, IfOk, Option, Some, None, is_some, nat_le, Result, Ok, Err, refl, ap, sym, ◌∙◌}
+use Rattle.std.proofs.Common.{if◌then◌else◌, ◌≡◌, Bool, true, false, IfOk, Some, None, is_some, nat_le, Result, Ok, Err, refl, ap, sym, ◌∙◌}
 use Rattle.hs_expr.specs.declared.Expr.{Expr}
 use Rattle.hs_expr.specs.declared.Kind.{Kind}
 use Rattle.hs_expr.specs.declared.failure.Failure.{Failure}

@@ -6,3 +6,4 @@ pub mod Definitions
 pub mod Slots
 pub mod RuleFaults
 pub mod Signatures
+pub mod Numbering

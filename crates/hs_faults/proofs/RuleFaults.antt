@@ -14,6 +14,7 @@ use Rattle.hs_faults.specs.Declarations.{faults_of_nodes, faults_of_params}
 use Rattle.hs_faults.specs.Depths.{is_flat}
 use Rattle.hs_faults.specs.Faults.{faults_in_rule}
 use Rattle.hs_faults.specs.Nodes.{declared_nodes}
+use Rattle.hs_faults.specs.Numbers.{data_params}
 use Rattle.hs_faults.specs.ParamNodes.{param_node_faults}
 use Rattle.hs_faults.specs.Places.{fault_at}
 use Rattle.hs_faults.specs.Sizes.{blocks, size_faults, sizes_fit}
@@ -24,7 +25,7 @@ use Rattle.hs_faults.proofs.Failures.{given_behind}
 -- Where the checks before find nothing, the answer on the sizes is the answer on the rule.
 pub by_sizes : (m : Metamodel) (rule : Rule) (p q r : List Param) (n map few : List DeclaredNode) (s kept : List Statement) (flat : Bool) (answer : Result (Unit {0}) (Failure RuleFault)) →
     p ≡ rule.params → q ≡ rule.params → r ≡ rule.params → n ≡ declared_nodes rule.items → map ≡ declared_nodes rule.items → few ≡ declared_nodes rule.items → s ≡ statements rule.items → kept ≡ statements rule.items →
-    verdict (faults_of_params m p) ≡ Ok tt → verdict (faults_of_nodes m n) ≡ Ok tt → verdict (param_node_faults map r) ≡ Ok tt → verdict (statement_faults m q map [] s) ≡ Ok tt → flat ≡ list_all (is_flat m q map) s →
+    verdict (faults_of_params m p) ≡ Ok tt → verdict (faults_of_nodes m n) ≡ Ok tt → verdict (param_node_faults map r) ≡ Ok tt → verdict (statement_faults m (data_params q) map [] s) ≡ Ok tt → flat ≡ list_all (is_flat m (data_params q) map) s →
     Gives answer (verdict (fault_if (not (sizes_fit rule.params (blocks rule.items) few kept && flat)) (fault_at rule.name.span kind.Limit))) →
     Gives answer (verdict (faults_in_rule m rule))
 by_sizes m rule p q r n map few s kept flat answer p_is q_is r_is n_is map_is few_is s_is kept_is params nodes joined said flat_is sizes =
@@ -34,10 +35,10 @@ by_sizes m rule p q r n map few s kept flat answer p_is q_is r_is n_is map_is fe
     ap (λ (x : List DeclaredNode). verdict (param_node_faults x rule.params)) (sym map_is)
     ∙ ap (λ (x : List Param). verdict (param_node_faults map x)) (sym r_is) ∙ joined
     )
-    (given_behind answer (statement_faults m rule.params (declared_nodes rule.items) [] (statements rule.items)) (size_faults m rule) (
-    ap (λ (x : List Param). verdict (statement_faults m x (declared_nodes rule.items) [] (statements rule.items))) (sym q_is)
-    ∙ ap (λ (x : List DeclaredNode). verdict (statement_faults m q x [] (statements rule.items))) (sym map_is)
-    ∙ ap (λ (x : List Statement). verdict (statement_faults m q map [] x)) (sym s_is) ∙ said
+    (given_behind answer (statement_faults m (data_params rule.params) (declared_nodes rule.items) [] (statements rule.items)) (size_faults m rule) (
+    ap (λ (x : List Param). verdict (statement_faults m (data_params x) (declared_nodes rule.items) [] (statements rule.items))) (sym q_is)
+    ∙ ap (λ (x : List DeclaredNode). verdict (statement_faults m (data_params q) x [] (statements rule.items))) (sym map_is)
+    ∙ ap (λ (x : List Statement). verdict (statement_faults m (data_params q) map [] x)) (sym s_is) ∙ said
     )
     (subst (λ (faults : List RuleFault). Gives answer (verdict faults)) sizes_are sizes))))
   where
@@ -45,6 +46,6 @@ by_sizes m rule p q r n map few s kept flat answer p_is q_is r_is n_is map_is fe
     sizes_are = ap (λ (x : List DeclaredNode). fault_if (not (sizes_fit rule.params (blocks rule.items) x kept && flat)) (fault_at rule.name.span kind.Limit)) few_is
         ∙ ap (λ (x : List Statement). fault_if (not (sizes_fit rule.params (blocks rule.items) (declared_nodes rule.items) x && flat)) (fault_at rule.name.span kind.Limit)) kept_is
         ∙ ap (λ (b : Bool). fault_if (not (sizes_fit rule.params (blocks rule.items) (declared_nodes rule.items) (statements rule.items) && b)) (fault_at rule.name.span kind.Limit)) (flat_is
-        ∙ ap (λ (x : List Param). list_all (is_flat m x map) s) q_is
-        ∙ ap (λ (x : List DeclaredNode). list_all (is_flat m rule.params x) s) map_is
-        ∙ ap (λ (x : List Statement). list_all (is_flat m rule.params (declared_nodes rule.items)) x) s_is)
+        ∙ ap (λ (x : List Param). list_all (is_flat m (data_params x) map) s) q_is
+        ∙ ap (λ (x : List DeclaredNode). list_all (is_flat m (data_params rule.params) x) s) map_is
+        ∙ ap (λ (x : List Statement). list_all (is_flat m (data_params rule.params) (declared_nodes rule.items)) x) s_is)

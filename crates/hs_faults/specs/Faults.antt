@@ -11,6 +11,7 @@ use Rattle.hs_faults.specs.declared.fault.RuleFaultKind.TheVariants as kind
 use Rattle.hs_faults.specs.Declarations.{faults_of_nodes, faults_of_params, is_again}
 use Rattle.hs_faults.specs.Sizes.{size_faults}
 use Rattle.hs_faults.specs.Nodes.{declared_nodes}
+use Rattle.hs_faults.specs.Numbers.{data_params}
 use Rattle.hs_faults.specs.Places.{fault_at}
 use Rattle.hs_faults.specs.ParamNodes.{param_node_faults}
 use Rattle.hs_faults.specs.Statements.{statements}
@@ -22,7 +23,7 @@ faults_in_rule m rule =
     faults_of_params m rule.params
     ++ (faults_of_nodes m (declared_nodes rule.items)
     ++ (param_node_faults (declared_nodes rule.items) rule.params
-    ++ (statement_faults m rule.params (declared_nodes rule.items) [] (statements rule.items)
+    ++ (statement_faults m (data_params rule.params) (declared_nodes rule.items) [] (statements rule.items)
     ++ size_faults m rule)))
 
 -- A rule after those before it: there are at most 64, and each has a name of its own.

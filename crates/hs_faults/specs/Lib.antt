@@ -10,6 +10,7 @@ pub mod ParamNodes
 pub mod Statements
 pub mod StatementKinds
 pub mod StatementFaults
+pub mod Numbers
 pub mod Written
 pub mod Depths
 pub mod Sizes

@@ -4,7 +4,6 @@ use Rattle.std.specs.List.{find, list_any, position, range_with_len}
 use Rattle.std.specs.Option.{option_and_then, option_map, option_map_or}
 use Rattle.hs_expr.specs.declared.Kind.{Kind}
 use Rattle.hs_expr.specs.declared.Kind.TheVariants as kind
-use Rattle.hs_types.specs.declared.meta.DataType.{DataType}
 use Rattle.hs_types.specs.declared.meta.Metamodel.{Metamodel}
 use Rattle.hs_expr.specs.Lists.{same_text}
 use Rattle.hs_types.specs.Metamodel.{class_at, feature_at, features_of, kind_of_type, supers_of, target_of, type_of}
@@ -48,13 +47,13 @@ feature_named m c name = find (is_named m name) (features_of m c)
 abbrev pub target_named : Metamodel → ℕ → List ℕ → Option ℕ
 target_named m c name = option_and_then (target_of m) (feature_named m c name)
 
--- The data type of the attribute of this name, of this class.
-abbrev pub type_named : Metamodel → ℕ → List ℕ → Option DataType
-type_named m c name = option_and_then (type_of m) (feature_named m c name)
+-- The number and the kind of feature f, where it is an attribute.
+abbrev pub as_attribute : Metamodel → ℕ → Option (ℕ × Kind)
+as_attribute m f = option_map (λ type. (f, kind_of_type type)) (type_of m f)
 
--- The kind of the attribute of this name, of this class.
-abbrev pub kind_named : Metamodel → ℕ → List ℕ → Option Kind
-kind_named m c name = option_map kind_of_type (type_named m c name)
+-- The number and the kind of the attribute of this name, of this class.
+abbrev pub class_attribute : Metamodel → ℕ → List ℕ → Option (ℕ × Kind)
+class_attribute m c name = option_and_then (as_attribute m) (feature_named m c name)
 
 -- The first node of this name.
 abbrev pub node_named : List DeclaredNode → List ℕ → Option DeclaredNode

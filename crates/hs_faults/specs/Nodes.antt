@@ -13,10 +13,11 @@ use Rattle.hs_text.specs.declared.syntax.Simple.TheVariants as simple
 use Rattle.hs_faults.specs.declared.nodes.DeclaredNode.{DeclaredNode}
 use Rattle.hs_faults.specs.declared.nodes.BlockId.{BlockId}
 use Rattle.hs_faults.specs.declared.nodes.BlockId.TheVariants.{Kernel, Pattern, Multi}
+use Rattle.hs_faults.specs.Numbers.{numbered}
 
 -- The node that an element declares, if it declares one.
 abbrev pub node_of_element : BlockId → Mark → Element → List DeclaredNode
-node_of_element block mark (element.Node name class) = record { name = name; class = class; mark = mark; block = block } ∷ []
+node_of_element block mark (element.Node name class) = record { name = name; class = class; mark = mark; block = block; number = 0 } ∷ []
 node_of_element block mark (element.Edge source target reference) = []
 
 abbrev pub node_of_simple : BlockId → Simple → List DeclaredNode
@@ -31,6 +32,10 @@ nodes_of_item i (item.Forbid elements) = flat_map (node_of_element (Pattern i) P
 nodes_of_item i (item.Require elements) = flat_map (node_of_element (Pattern i) Preserve) elements
 nodes_of_item i (item.Multi simples) = flat_map (node_of_simple (Multi i)) simples
 
--- All nodes of the rule that has these items, in written order.
+-- All nodes of the rule that has these items, in written order, and not numbered yet.
+abbrev pub written_nodes : List Item → List DeclaredNode
+written_nodes items = each nodes_of_item items
+
+-- The same nodes with their numbers.
 abbrev pub declared_nodes : List Item → List DeclaredNode
-declared_nodes items = each nodes_of_item items
+declared_nodes items = numbered (written_nodes items)

@@ -1,5 +1,5 @@
 -- A small bank and parts of rules over it, to try the definitions on.
-use Rattle.std.specs.Prelude.{ℕ, pos, List, [], ◌∷◌, true, false, None, codes, refl}
+use Rattle.std.specs.Prelude.{ℕ, pos, List, [], ◌∷◌, false, None, codes, refl}
 use Rattle.hs_expr.specs.declared.Name.{Name}
 use Rattle.hs_expr.specs.declared.Piece.TheVariants as piece
 use Rattle.hs_expr.specs.declared.Span.{Span}

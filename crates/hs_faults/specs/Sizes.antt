@@ -17,6 +17,7 @@ use Rattle.hs_faults.specs.declared.fault.RuleFault.{RuleFault}
 use Rattle.hs_faults.specs.declared.fault.RuleFaultKind.TheVariants as kind
 use Rattle.hs_faults.specs.Depths.{is_flat}
 use Rattle.hs_faults.specs.Nodes.{declared_nodes}
+use Rattle.hs_faults.specs.Numbers.{count_in, data_params}
 use Rattle.hs_faults.specs.Places.{fault_at}
 use Rattle.hs_faults.specs.Statements.{Statement, Edge, Set, Where, statements}
 use Rattle.hs_faults.specs.StatementFaults.{same_block}
@@ -49,7 +50,7 @@ is_edge_of part (Where block word test) = false
 
 -- At most 12 nodes and 16 edges of this part of the rule.
 abbrev pub has_few : List DeclaredNode → List Statement → BlockId → Bool
-has_few nodes statements part = nat_le (length (filter (λ node. same_block part node.block) nodes)) MAX_PATTERN_NODES && nat_le (length (filter (is_edge_of part) statements)) MAX_PATTERN_EDGES
+has_few nodes statements part = nat_le (count_in nodes part) MAX_PATTERN_NODES && nat_le (length (filter (is_edge_of part) statements)) MAX_PATTERN_EDGES
 
 -- An edge of this part, source, target and reference, whatever its mark is.
 abbrev pub is_alike : BlockId → Name → Name → Name → Statement → Bool
@@ -77,7 +78,7 @@ sizes_fit params blocks nodes statements =
 abbrev pub keeps_limits : Metamodel → Rule → Bool
 keeps_limits m rule =
     sizes_fit rule.params (blocks rule.items) (declared_nodes rule.items) (statements rule.items)
-    && list_all (is_flat m rule.params (declared_nodes rule.items)) (statements rule.items)
+    && list_all (is_flat m (data_params rule.params) (declared_nodes rule.items)) (statements rule.items)
 
 abbrev pub size_faults : Metamodel → Rule → List RuleFault
 size_faults m rule = fault_if (not (keeps_limits m rule)) (fault_at rule.name.span kind.Limit)

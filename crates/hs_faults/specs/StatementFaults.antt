@@ -17,7 +17,6 @@ use Rattle.hs_eval.specs.declared.fault.Wrong.{Wrong}
 use Rattle.hs_eval.specs.declared.fault.Wrong.TheVariants as wrong
 use Rattle.hs_text.specs.declared.syntax.Mark.{Mark}
 use Rattle.hs_text.specs.declared.syntax.Mark.TheVariants.{Preserve, Create, Delete}
-use Rattle.hs_text.specs.declared.syntax.Param.{Param}
 use Rattle.hs_expr.specs.NameExprs.{expr_tree}
 use Rattle.hs_types.specs.declared.meta.Metamodel.{Metamodel}
 use Rattle.hs_expr.specs.Lists.{same_text}
@@ -25,6 +24,7 @@ use Rattle.hs_types.specs.Metamodel.{supers_of}
 use Rattle.hs_types.specs.Pattern.{is_left}
 use Rattle.hs_types.specs.RuleForm.{joins}
 use Rattle.hs_types.specs.Metamodel.{conforms}
+use Rattle.hs_faults.specs.declared.data_parameters.DataParam.{DataParam}
 use Rattle.hs_faults.specs.declared.nodes.DeclaredNode.{DeclaredNode}
 use Rattle.hs_faults.specs.declared.nodes.BlockId.{BlockId}
 use Rattle.hs_faults.specs.declared.nodes.BlockId.TheVariants.{Kernel, Pattern, Multi}
@@ -33,7 +33,7 @@ use Rattle.hs_faults.specs.declared.fault.RuleFaultKind.{RuleFaultKind}
 use Rattle.hs_faults.specs.declared.fault.RuleFaultKind.TheVariants as kind
 use Rattle.hs_faults.specs.Marks.{mark_meant}
 use Rattle.hs_faults.specs.Named.{first_named}
-use Rattle.hs_faults.specs.Names.{class_number, data_named, kind_named, node_named, target_named}
+use Rattle.hs_faults.specs.Names.{class_attribute, class_number, node_named, target_named}
 use Rattle.hs_faults.specs.Places.{fault_at}
 use Rattle.hs_faults.specs.ParamNodes.{is_kernel}
 use Rattle.hs_faults.specs.Statements.{Statement, Edge, Set, Where}
@@ -75,9 +75,9 @@ may_join (Multi i) mark end = joins (mark_meant mark) (mark_meant end)
 abbrev pub target_from : Metamodel → DeclaredNode → List ℕ → Option ℕ
 target_from m node name = option_and_then (λ c. target_named m c name) (node_class m node)
 
--- The kind of the node's attribute of this name.
-abbrev pub attribute_kind : Metamodel → DeclaredNode → List ℕ → Option Kind
-attribute_kind m node name = option_and_then (λ c. kind_named m c name) (node_class m node)
+-- The number and the kind of the node's attribute of this name.
+abbrev pub attribute_of : Metamodel → DeclaredNode → List ℕ → Option (ℕ × Kind)
+attribute_of m node name = option_and_then (λ c. class_attribute m c name) (node_class m node)
 
 -- An edge joins nodes that are open to it, by a reference of the source's class that leads to the target's, and that its mark lets it join.
 unfoldable pub edge_checked : Metamodel → List DeclaredNode → BlockId → Mark → Name → Name → Name → Result (Unit {0}) RuleFault
@@ -87,9 +87,10 @@ edge_checked m nodes block mark source target reference = do
   class ← needed (target_from m from reference.text) (fault_at reference.span kind.UnknownReference)
   demand (is_of_class m class to && may_join block mark from.mark && may_join block mark to.mark) (fault_at reference.span kind.BadEnds)
 
--- What a name stands for in an expression that is checked: a parameter for data.
-abbrev pub param_seen : List Param → List ℕ → Option (ℕ × Kind)
-param_seen params name = option_and_then (λ param. option_map (λ k. (0, k)) (data_named param.kind.text)) (first_named (λ param. param.name) params name)
+-- The number and the kind of the data parameter of this name.
+abbrev pub data_param_named : List DataParam → List ℕ → Option (ℕ × Kind)
+data_param_named params name =
+    option_map (λ param. (param.number, param.kind)) (first_named (λ param. param.name) params name)
 
 -- A node that may not be named is known as one that can't be read where it is of a forbid or require block, and isn't known where it is of another multi block.
 abbrev pub hidden_read : BlockId → Option Bool
@@ -101,16 +102,16 @@ hidden_read (Multi i) = None
 abbrev pub can_read : BlockId → DeclaredNode → Option Bool
 can_read block node = if is_visible block node then Some (is_left (mark_meant node.mark)) else hidden_read node.block
 
--- A node that is read, by its class, which is all that its attributes depend on.
-abbrev pub node_read : Metamodel → List DeclaredNode → BlockId → List ℕ → Option (ℕ × Bool)
-node_read m nodes block name = option_and_then (λ node. option_and_then (λ left. option_map (λ c. (c, left)) (node_class m node)) (can_read block node)) (node_named nodes name)
+-- The node's number, and whether it can be read.
+abbrev pub readable : BlockId → DeclaredNode → Option (ℕ × Bool)
+readable block node = option_map (λ left. (node.number, left)) (can_read block node)
 
--- What the names of an expression stand for, from this part of the rule. Which numbers they have plays no role for faults: a node goes by its class's.
-abbrev pub class_scope : Metamodel → List Param → List DeclaredNode → BlockId → Names
-class_scope m params nodes block = record {
-  param = param_seen params;
-  node = node_read m nodes block;
-  attribute = λ c name. option_map (λ k. (0, k)) (kind_named m c name);
+-- What the names of an expression stand for, from this part of the rule.
+abbrev pub rule_scope : Metamodel → List DataParam → List DeclaredNode → BlockId → Names
+rule_scope m params nodes block = record {
+  param = data_param_named params;
+  node = λ name. option_and_then (readable block) (node_named nodes name);
+  attribute = λ owner name. option_and_then (λ node. attribute_of m node name) (node_named nodes owner);
 }
 
 abbrev pub kind_of_wrong : Wrong → RuleFaultKind
@@ -152,23 +153,23 @@ abbrev pub is_set_before : List Slot → List ℕ → List ℕ → Bool
 is_set_before slots node attribute = list_any (λ slot. same_text node slot.node && same_text attribute slot.attribute) slots
 
 -- A set writes a slot that was not set before, of a node of its own part of the rule that isn't deleted, with a value of the slot's kind.
-unfoldable pub set_checked : Metamodel → List Param → List DeclaredNode → List Slot → BlockId → Name → Name → NameExpr → Result (Unit {0}) RuleFault
+unfoldable pub set_checked : Metamodel → List DataParam → List DeclaredNode → List Slot → BlockId → Name → Name → NameExpr → Result (Unit {0}) RuleFault
 set_checked m params nodes before block node attribute value = do
   written ← needed (visible_node nodes block node.text) (fault_at node.span kind.UnknownNode)
   _ ← demand (not (is_deleted written.mark)) (fault_at node.span kind.WriteOnDeleted)
   _ ← demand (same_block block written.block) (fault_at node.span kind.KernelSlotInCopy)
-  wanted ← needed (attribute_kind m written attribute.text) (fault_at attribute.span kind.UnknownAttribute)
+  wanted ← needed (attribute_of m written attribute.text) (fault_at attribute.span kind.UnknownAttribute)
   _ ← demand (not (is_set_before before node.text attribute.text)) (fault_at attribute.span kind.Twice)
-  found ← kind_checked (class_scope m params nodes block) value
-  demand (same_kind found wanted) (fault_at attribute.span kind.BadKind)
+  found ← kind_checked (rule_scope m params nodes block) value
+  demand (same_kind found wanted.1) (fault_at attribute.span kind.BadKind)
 
 -- A condition is true or false.
-unfoldable pub where_checked : Metamodel → List Param → List DeclaredNode → BlockId → Span → NameExpr → Result (Unit {0}) RuleFault
+unfoldable pub where_checked : Metamodel → List DataParam → List DeclaredNode → BlockId → Span → NameExpr → Result (Unit {0}) RuleFault
 where_checked m params nodes block word test = do
-  found ← kind_checked (class_scope m params nodes block) test
+  found ← kind_checked (rule_scope m params nodes block) test
   demand (same_kind found sort.Bool) (fault_at word kind.BadKind)
 
-abbrev pub statement_checked : Metamodel → List Param → List DeclaredNode → List Slot → Statement → Result (Unit {0}) RuleFault
+abbrev pub statement_checked : Metamodel → List DataParam → List DeclaredNode → List Slot → Statement → Result (Unit {0}) RuleFault
 statement_checked m params nodes before (Edge block mark source target reference) = edge_checked m nodes block mark source target reference
 statement_checked m params nodes before (Set block node attribute value) = set_checked m params nodes before block node attribute value
 statement_checked m params nodes before (Where block word test) = where_checked m params nodes block word test
@@ -185,6 +186,6 @@ first_fault (Ok x) = []
 first_fault (Err fault) = fault ∷ []
 
 -- The faults statement by statement. Each is checked with the slots in mind that those before it set.
-abbrev pub statement_faults : Metamodel → List Param → List DeclaredNode → List Slot → List Statement → List RuleFault
+abbrev pub statement_faults : Metamodel → List DataParam → List DeclaredNode → List Slot → List Statement → List RuleFault
 statement_faults m params nodes before [] = []
 statement_faults m params nodes before (statement ∷ statements) = first_fault (statement_checked m params nodes before statement) ++ statement_faults m params nodes (before ++ slot_set_by statement) statements

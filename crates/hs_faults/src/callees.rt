@@ -9,7 +9,7 @@ ghost use Rattle.hs_faults.specs.NamedParams.{all_params};
 ghost use Rattle.hs_faults.specs.UnitFaults as spec;
 
 use crate::name_index::NameIndex;
-use crate::names_seen::{NamesSeen, find_named, keep_first, known_of};
+use crate::names_seen::{NamesSeen, find_named, keep_first};
 use crate::signature::Signature;
 use hs_text::{Definition, Rule};
 use hs_types::Meta;
@@ -52,12 +52,12 @@ impl<'a, 's> Callees<'a, 's> {
         ensures { IfOk result (λ callees. callees ≡ record { meta = meta.now; definitions = definitions.now }) }
     {
         let rules = known_rules(alloc, definitions)?;
-        let known = known_of(alloc, signatures)?;
+        let signatures = NameIndex::of(alloc, signatures)?;
         Ok(Callees {
             meta,
             definitions,
             rules,
-            signatures: NameIndex::new(signatures, known),
+            signatures,
         })
     }
 

@@ -8,7 +8,7 @@ ghost use Rattle.hs_faults.specs.Declarations as spec;
 ghost use Rattle.hs_faults.specs.Named.{Knows};
 
 use crate::fault::{RuleFault, RuleFaultKind, fault_at};
-use crate::name_index::{NameIndex, NodeIndex, ParamIndex};
+use crate::name_index::{NameIndex, NodeIndex};
 use crate::names::{class_number, data_named, has_concrete, is_concrete};
 use crate::names_seen::{NamesSeen, add_named};
 use crate::nodes::DeclaredNode;
@@ -17,20 +17,16 @@ use hs_text::{Mark, Param};
 use hs_types::Meta;
 use std::alloc::Global;
 
-/// The parameters by their names, or their first fault, each by itself.
+/// The first fault of the parameters, each by itself.
 #[tactic(auto, using(hs_expr::proofs::Verdicts::each_steps))]
-pub fn params_by_name<'a>(
-    alloc: Global,
-    meta: &Meta,
-    params: &'a [Param],
-) -> Result<ParamIndex<'a>, Failure<RuleFault>>
-    ensures { GivesWhere (λ index. index ≡ params.now) result (verdict (spec.faults_of_params meta.now params.now)) }
+pub fn check_params(alloc: Global, meta: &Meta, params: &[Param]) -> Result<(), Failure<RuleFault>>
+    ensures { Gives result (verdict (spec.faults_of_params meta.now params.now)) }
 {
     let mut known = NamesSeen::new(alloc);
     for param in params {
         check_param(meta, &mut known, param)?;
     }
-    Ok(NameIndex::new(params, known))
+    Ok(())
 }
 
 /// The parameter's first fault; then adds it to those known.

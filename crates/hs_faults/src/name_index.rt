@@ -1,9 +1,11 @@
-ghost use Rattle.std.specs.Prelude.{◌≡◌, option_copied};
+ghost use Rattle.std.specs.Prelude.{◌≡◌, IfOk, option_copied};
 ghost use Rattle.hs_faults.specs.Named.{Knows, first_named};
 
-use crate::names_seen::{Named, NamesSeen, find_named};
+use crate::data_parameters::DataParam;
+use crate::names_seen::{Named, NamesSeen, find_named, known_of};
 use crate::nodes::DeclaredNode;
 use hs_text::{Bind, Param};
+use std::alloc::{AllocError, Global};
 use std::marker::Model;
 
 /// Items with a way to look them up by name. Contracts see it as the list of the items.
@@ -16,7 +18,10 @@ pub struct NameIndex<'a, T: Named> {
 /// The nodes of a rule and of its blocks.
 pub type NodeIndex<'a> = NameIndex<'a, DeclaredNode>;
 
-/// The parameters of a rule.
+/// The parameters of a rule that stand for data.
+pub type DataIndex<'a> = NameIndex<'a, DataParam>;
+
+/// The parameters of a unit, or of what is called.
 pub type ParamIndex<'a> = NameIndex<'a, Param>;
 
 /// The binds of a call, by the parameters that they tie.
@@ -39,6 +44,20 @@ impl<'a, T: Named> NameIndex<'a, T> {
         ensures { result ≡ all.now }
     {
         NameIndex { all, by_name }
+    }
+
+    /// The items by their names, of a name the first.
+    pub fn of(alloc: Global, all: &'a [T]) -> Result<NameIndex<'a, T>, AllocError>
+        ensures { IfOk result (λ index. index ≡ all.now) }
+    {
+        let by_name = known_of(alloc, all)?;
+        Ok(NameIndex { all, by_name })
+    }
+
+    pub fn items(&self) -> &'a [T]
+        ensures { result.now ≡ self.now }
+    {
+        self.all
     }
 
     /// The first item of this name.

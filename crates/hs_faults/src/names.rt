@@ -64,14 +64,6 @@ pub fn target_named(meta: &Meta, class: ClassNo, name: &Text) -> Option<ClassNo>
     meta.target_of(reference)
 }
 
-/// The data type of the attribute of this name, of this class.
-pub fn type_named(meta: &Meta, class: ClassNo, name: &str) -> Option<DataType>
-    ensures { result ≡ spec.type_named meta.now class name.now }
-{
-    let attribute = feature_named(meta, class, name)?;
-    meta.type_of(attribute)
-}
-
 /// The first of the class's features that has this name.
 pub fn feature_named(meta: &Meta, class: ClassNo, name: &str) -> Option<FeatureNo>
     ensures { result ≡ spec.feature_named meta.now class name.now }
@@ -104,12 +96,20 @@ pub fn conforms(meta: &Meta, class: ClassNo, above: ClassNo) -> bool
     meta.conforms(class, above)
 }
 
-/// The kind of the attribute of this name, of this class.
-pub fn kind_named(meta: &Meta, class: ClassNo, name: &str) -> Option<Kind>
-    ensures { result ≡ spec.kind_named meta.now class name.now }
+/// The number and the kind of the feature, where it is an attribute.
+fn as_attribute(meta: &Meta, feature: FeatureNo) -> Option<(FeatureNo, Kind)>
+    ensures { result ≡ spec.as_attribute meta.now feature }
 {
-    let data_type = type_named(meta, class, name)?;
-    Some(kind_of_type(data_type))
+    let data_type = meta.type_of(feature)?;
+    Some((feature, kind_of_type(data_type)))
+}
+
+/// The number and the kind of the attribute of this name, of this class.
+pub fn class_attribute(meta: &Meta, class: ClassNo, name: &str) -> Option<(FeatureNo, Kind)>
+    ensures { result ≡ spec.class_attribute meta.now class name.now }
+{
+    let feature = feature_named(meta, class, name)?;
+    as_attribute(meta, feature)
 }
 
 /// The kind of the values that a data type has.

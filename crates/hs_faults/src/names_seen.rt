@@ -3,6 +3,7 @@
 ghost use Rattle.std.specs.Prelude.{◌≡◌, ◌++◌, ◌∷◌, [], ℕ, List, IfOk, OnOk, not, is_some, true, option_copied};
 ghost use Rattle.hs_faults.specs.Named.{Knows, first_named};
 
+use crate::data_parameters::DataParam;
 use crate::nodes::DeclaredNode;
 use hs_expr::Name;
 use hs_text::{Bind, Param, Rule, Unit};
@@ -20,6 +21,14 @@ pub trait Named {
 }
 
 impl Named for Param {
+    ghost named = { λ param. param.name };
+
+    fn name(&self) -> &Name {
+        &self.name
+    }
+}
+
+impl Named for DataParam {
     ghost named = { λ param. param.name };
 
     fn name(&self) -> &Name {

@@ -4,13 +4,14 @@ ghost use Rattle.std.specs.Prelude.{◌≡◌, ◌++◌, IfOk, OnOk};
 ghost use Rattle.std.specs.List.{flat_map};
 ghost use Rattle.hs_faults.specs.Nodes as spec;
 
+use crate::numbers::numbered;
 use hs_expr::{List, Name};
 use hs_text::{Element, Item, Mark, Simple};
 use std::alloc::{AllocError, Global};
 
 /// Where in a rule something stands: in the kernel, or in a block, by the block's place among the
 /// rule's items.
-#[derive(Clone, Copy, PartialEq, Eq, Debug)]
+#[derive(Clone, Copy, PartialEq, Eq, Hash, Debug)]
 pub enum BlockId {
     Kernel,
     /// A forbid or require block.
@@ -26,11 +27,21 @@ pub struct DeclaredNode {
     pub class: Name,
     pub mark: Mark,
     pub block: BlockId,
+    /// Its number in expressions; 0 before all nodes are known.
+    pub number: u16,
 }
 
-/// All nodes that the items declare, in written order.
+/// All nodes that the items declare, in written order, with their numbers.
 pub fn declared_nodes(alloc: Global, items: &[Item]) -> Result<List<DeclaredNode>, AllocError>
     ensures { IfOk result (λ nodes. nodes ≡ spec.declared_nodes items.now) }
+{
+    let nodes = written_nodes(alloc, items)?;
+    numbered(alloc, nodes)
+}
+
+/// All nodes that the items declare, not numbered yet.
+fn written_nodes(alloc: Global, items: &[Item]) -> Result<List<DeclaredNode>, AllocError>
+    ensures { IfOk result (λ nodes. nodes ≡ spec.written_nodes items.now) }
 {
     let mut nodes = List::new(alloc);
     for (i, item) in items.iter().enumerate() {
@@ -111,6 +122,7 @@ fn add_of_element(
                 class: copy_of(class)?,
                 mark,
                 block,
+                number: 0,
             })?;
             Ok(())
         }
@@ -118,7 +130,7 @@ fn add_of_element(
     }
 }
 
-fn copy_of(name: &Name) -> Result<Name, AllocError>
+pub fn copy_of(name: &Name) -> Result<Name, AllocError>
     ensures { IfOk result (λ copy. copy ≡ name.now) }
 {
     Ok(Name {

@@ -4,7 +4,7 @@ ghost use Rattle.hs_expr.specs.Steps.{Gives};
 ghost use Rattle.hs_expr.specs.Verdict.{verdict};
 ghost use Rattle.hs_faults.specs.Faults as spec;
 
-use crate::declarations::{nodes_by_name, params_by_name};
+use crate::declarations::{check_params, nodes_by_name};
 use crate::fault::RuleFault;
 use crate::nodes::declared_nodes;
 use crate::param_nodes::check_param_nodes;
@@ -21,12 +21,18 @@ use std::alloc::Global;
 pub fn check_rule(alloc: Global, meta: &Meta, rule: &Rule) -> Result<(), Failure<RuleFault>>
     ensures { Gives result (verdict (spec.faults_in_rule meta.now rule.now)) }
 {
-    let params = params_by_name(alloc, meta, rule.params.as_slice())?;
+    check_params(alloc, meta, rule.params.as_slice())?;
     let declared = declared_nodes(alloc, rule.items.as_slice())?;
     let nodes = nodes_by_name(alloc, meta, declared.as_slice())?;
     as_failure(check_param_nodes(&nodes, rule.params.as_slice()))?;
     let statements = statements(alloc, rule.items.as_slice())?;
-    let flat = check_statements(alloc, meta, &params, &nodes, statements.as_slice())?;
+    let flat = check_statements(
+        alloc,
+        meta,
+        rule.params.as_slice(),
+        &nodes,
+        statements.as_slice(),
+    )?;
     check_sizes(
         alloc,
         rule,

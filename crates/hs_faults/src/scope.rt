@@ -7,48 +7,59 @@ ghost use Rattle.hs_faults.specs.StatementFaults as spec;
 
 use crate::edges::{is_visible, node_class};
 use crate::fault::{RuleFault, RuleFaultKind, fault_at};
-use crate::name_index::{NodeIndex, ParamIndex};
-use crate::names::{data_named, kind_named};
+use crate::name_index::{DataIndex, NodeIndex};
+use crate::names::class_attribute;
 use crate::nodes::{BlockId, DeclaredNode};
 use hs_eval::{Checked, ExprFault, Scope, Wrong, check};
 use hs_expr::{Failure, Kind, NameExpr, Text, fault_as};
 use hs_text::Mark;
-use hs_types::Meta;
+use hs_types::{FeatureNo, Meta};
 use std::alloc::Global;
 
-/// What names stand for in this part of a rule. Their numbers play no role for faults: a node goes by
-/// its class's.
+/// What names stand for in this part of a rule.
 #[derive(Clone, Copy)]
-pub struct ClassScope<'s, 'p, 'n> {
+pub struct RuleScope<'s, 'p, 'n> {
     pub meta: &'s Meta,
-    pub params: &'s ParamIndex<'p>,
+    pub params: &'s DataIndex<'p>,
     pub nodes: &'s NodeIndex<'n>,
     pub block: BlockId,
 }
 
-impl<'s, 'p, 'n> Scope for ClassScope<'s, 'p, 'n> {
-    ghost use Rattle.hs_faults.specs.Places as places;
+impl<'s, 'p, 'n> Scope for RuleScope<'s, 'p, 'n> {
     ghost use Rattle.hs_faults.specs.StatementFaults as spec;
 
-    ghost names = { λ scope. spec.class_scope scope.meta.now scope.params.now scope.nodes.now scope.block };
+    ghost names = { λ scope. spec.rule_scope scope.meta.now scope.params.now scope.nodes.now scope.block };
 
     fn param(&self, name: &str) -> Option<(u16, Kind)> {
         let param = self.params.find(name)?;
-        let kind = data_named(&param.kind.text)?;
-        Some((0, kind))
+        Some((param.number, param.kind))
     }
 
     fn node(&self, name: &str) -> Option<(u16, bool)> {
         let node = self.nodes.find(name)?;
-        let left = can_read(self.block, node)?;
-        let class = node_class(self.meta, node)?;
-        Some((class, left))
+        readable(self.block, node)
     }
 
-    fn attribute(&self, node: u16, name: &str) -> Option<(u16, Kind)> {
-        let kind = kind_named(self.meta, node, name)?;
-        Some((0, kind))
+    fn attribute(&self, node: &str, name: &str) -> Option<(u16, Kind)> {
+        let owner = self.nodes.find(node)?;
+        attribute_of(self.meta, owner, name)
     }
+}
+
+/// The number and the kind of the node's attribute of this name.
+pub fn attribute_of(meta: &Meta, node: &DeclaredNode, name: &str) -> Option<(FeatureNo, Kind)>
+    ensures { result ≡ spec.attribute_of meta.now node.now name.now }
+{
+    let class = node_class(meta, node)?;
+    class_attribute(meta, class, name)
+}
+
+/// The node's number, and whether it can be read from this part of the rule.
+fn readable(block: BlockId, node: &DeclaredNode) -> Option<(u16, bool)>
+    ensures { result ≡ spec.readable block node.now }
+{
+    let left = can_read(block, node)?;
+    Some((node.number, left))
 }
 
 /// Whether the node can be read from this part of the rule, where it is known there.
@@ -87,11 +98,11 @@ fn kind_of_wrong(wrong: Wrong) -> RuleFaultKind
 /// The expression as it is checked, or its first fault.
 pub fn check_expr(
     alloc: Global,
-    names: &ClassScope<'_, '_, '_>,
+    names: &RuleScope<'_, '_, '_>,
     expr: &NameExpr,
 ) -> Result<Checked, Failure<RuleFault>>
-    ensures kind { GivesBy (λ found. found.kind) result (spec.kind_checked (spec.class_scope names.now.meta.now names.now.params.now names.now.nodes.now names.now.block) expr.now) }
-    ensures depth { IfOk result (λ found. is_some found.expr ≡ spec.is_shallow (spec.class_scope names.now.meta.now names.now.params.now names.now.nodes.now names.now.block) expr.now) }
+    ensures kind { GivesBy (λ found. found.kind) result (spec.kind_checked (spec.rule_scope names.now.meta.now names.now.params.now names.now.nodes.now names.now.block) expr.now) }
+    ensures depth { IfOk result (λ found. is_some found.expr ≡ spec.is_shallow (spec.rule_scope names.now.meta.now names.now.params.now names.now.nodes.now names.now.block) expr.now) }
 {
     fault_as(
         check(alloc, expr, names),

@@ -11,6 +11,7 @@ ghost use Rattle.hs_faults.specs.StatementFaults.{same_block};
 use crate::edges::same_block;
 use crate::fault::{RuleFault, RuleFaultKind, fault_at};
 use crate::nodes::{BlockId, DeclaredNode};
+use crate::numbers::count_in;
 use crate::statements::{Statement, StatementKind};
 use hs_expr::{Failure, List, Name, demand};
 use hs_text::{Item, Param, Rule};
@@ -131,17 +132,7 @@ fn all_have_few(nodes: &[DeclaredNode], statements: &[Statement<'_>], blocks: &[
 fn has_few(nodes: &[DeclaredNode], statements: &[Statement<'_>], part: BlockId) -> bool
     ensures { result ≡ spec.has_few nodes.now statements.now part }
 {
-    count_nodes(nodes, part) <= MAX_PATTERN_NODES
-        && count_edges(statements, part) <= MAX_PATTERN_EDGES
-}
-
-fn count_nodes(nodes: &[DeclaredNode], part: BlockId) -> usize
-    ensures { result ≡ length (filter (λ node. same_block part node.block) nodes.now) }
-{
-    nodes
-        .iter()
-        .filter(|node| same_block(part, node.block))
-        .count()
+    count_in(nodes, part) <= MAX_PATTERN_NODES && count_edges(statements, part) <= MAX_PATTERN_EDGES
 }
 
 fn count_edges(statements: &[Statement<'_>], part: BlockId) -> usize

@@ -6,30 +6,22 @@ ghost use Rattle.hs_expr.specs.Steps.{GivesBy};
 ghost use Rattle.hs_expr.specs.Verdict.{verdict};
 ghost use Rattle.hs_expr.specs.Steps.{GivesWhere};
 ghost use Rattle.hs_faults.specs.Depths.{is_flat};
+ghost use Rattle.hs_faults.specs.Numbers.{data_params};
 ghost use Rattle.hs_faults.specs.StatementKinds.{statement_at};
 ghost use Rattle.hs_faults.specs.StatementFaults as spec;
 ghost use Rattle.hs_faults.specs.Written.{HasSlots};
 
-use crate::edges::{check_edge, node_class, same_block, visible_node};
+use crate::data_parameters::data_params;
+use crate::edges::{check_edge, same_block, visible_node};
 use crate::fault::{RuleFault, RuleFaultKind, fault_at};
-use crate::name_index::{NodeIndex, ParamIndex};
-use crate::names::kind_named;
-use crate::nodes::DeclaredNode;
-use crate::scope::{ClassScope, check_expr};
+use crate::name_index::{DataIndex, NameIndex, NodeIndex};
+use crate::scope::{RuleScope, attribute_of, check_expr};
 use crate::statements::{Statement, StatementKind};
 use crate::written::{Written, is_set_before, set_slot};
 use hs_expr::{Failure, Kind, Name, NameExpr, Span, demand, needed};
-use hs_text::Mark;
+use hs_text::{Mark, Param};
 use hs_types::Meta;
 use std::alloc::Global;
-
-/// The kind of the node's attribute of this name.
-fn attribute_kind(meta: &Meta, node: &DeclaredNode, name: &str) -> Option<Kind>
-    ensures { result ≡ spec.attribute_kind meta.now node.now name.now }
-{
-    let class = node_class(meta, node)?;
-    kind_named(meta, class, name)
-}
 
 pub fn same_kind(one: Kind, other: Kind) -> bool
     ensures { result ≡ spec.same_kind one other }
@@ -46,7 +38,7 @@ pub fn same_kind(one: Kind, other: Kind) -> bool
 #[tactic(auto, unfolding(crate::specs::StatementFaults::set_checked))]
 fn check_set(
     alloc: Global,
-    names: &ClassScope<'_, '_, '_>,
+    names: &RuleScope<'_, '_, '_>,
     written: &Written<'_>,
     node: &Name,
     attribute: &Name,
@@ -54,7 +46,7 @@ fn check_set(
 ) -> Result<bool, Failure<RuleFault>>
     ensures fault { (slots : List spec.Slot) → HasSlots written.now slots → GivesBy (λ flat. tt) result
         (spec.set_checked names.now.meta.now names.now.params.now names.now.nodes.now slots names.now.block node.now attribute.now value.now) }
-    ensures depth { IfOk result (λ flat. flat ≡ spec.is_shallow (spec.class_scope names.now.meta.now names.now.params.now names.now.nodes.now names.now.block) value.now) }
+    ensures depth { IfOk result (λ flat. flat ≡ spec.is_shallow (spec.rule_scope names.now.meta.now names.now.params.now names.now.nodes.now names.now.block) value.now) }
 {
     let target = visible_node(names.nodes, names.block, node)?;
     demand(
@@ -65,8 +57,8 @@ fn check_set(
         same_block(names.block, target.block),
         fault_at(node.span, RuleFaultKind::KernelSlotInCopy),
     )?;
-    let wanted = needed(
-        attribute_kind(names.meta, target, attribute.text.as_str()),
+    let (_, wanted) = needed(
+        attribute_of(names.meta, target, attribute.text.as_str()),
         fault_at(attribute.span, RuleFaultKind::UnknownAttribute),
     )?;
     demand(
@@ -85,13 +77,13 @@ fn check_set(
 #[tactic(auto, unfolding(crate::specs::StatementFaults::where_checked))]
 fn check_where(
     alloc: Global,
-    names: &ClassScope<'_, '_, '_>,
+    names: &RuleScope<'_, '_, '_>,
     word: Span,
     test: &NameExpr,
 ) -> Result<bool, Failure<RuleFault>>
     ensures fault { GivesBy (λ flat. tt) result
         (spec.where_checked names.now.meta.now names.now.params.now names.now.nodes.now names.now.block word test.now) }
-    ensures depth { IfOk result (λ flat. flat ≡ spec.is_shallow (spec.class_scope names.now.meta.now names.now.params.now names.now.nodes.now names.now.block) test.now) }
+    ensures depth { IfOk result (λ flat. flat ≡ spec.is_shallow (spec.rule_scope names.now.meta.now names.now.params.now names.now.nodes.now names.now.block) test.now) }
 {
     let found = check_expr(alloc, names, test)?;
     demand(
@@ -105,7 +97,7 @@ fn check_where(
 /// that are set.
 fn check_statement<'a>(
     alloc: Global,
-    names: &ClassScope<'_, '_, '_>,
+    names: &RuleScope<'_, '_, '_>,
     written: &mut Written<'a>,
     kind: &StatementKind<'a>,
 ) -> Result<bool, Failure<RuleFault>>
@@ -147,10 +139,26 @@ fn check_statement<'a>(
 }
 
 /// Whether all expressions of the statements nest few, or the first fault of the statements.
-pub fn check_statements<'a>(
+pub fn check_statements(
     alloc: Global,
     meta: &Meta,
-    params: &ParamIndex<'_>,
+    params: &[Param],
+    nodes: &NodeIndex<'_>,
+    statements: &[Statement<'_>],
+) -> Result<bool, Failure<RuleFault>>
+    ensures { GivesWhere (λ flat. flat ≡ list_all (is_flat meta.now (data_params params.now) nodes.now) statements.now) result
+        (verdict (spec.statement_faults meta.now (data_params params.now) nodes.now [] statements.now)) }
+{
+    let given = data_params(alloc, params)?;
+    let index = NameIndex::of(alloc, given.as_slice())?;
+    check_each_statement(alloc, meta, &index, nodes, statements)
+}
+
+/// The same, given the parameters for data.
+fn check_each_statement<'a>(
+    alloc: Global,
+    meta: &Meta,
+    params: &DataIndex<'_>,
     nodes: &NodeIndex<'_>,
     statements: &[Statement<'a>],
 ) -> Result<bool, Failure<RuleFault>>
@@ -160,7 +168,7 @@ pub fn check_statements<'a>(
     let mut written = Written::new(alloc);
     let mut flat = true;
     for statement in statements {
-        let names = ClassScope {
+        let names = RuleScope {
             meta,
             params,
             nodes,

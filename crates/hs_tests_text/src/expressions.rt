@@ -60,7 +60,7 @@ impl Scope for Sample {
         }
     }
 
-    fn attribute(&self, node: u16, name: &str) -> Option<(u16, Kind)> {
+    fn attribute(&self, node: &str, name: &str) -> Option<(u16, Kind)> {
         if name == self.number.as_str() {
             Some((7, Kind::Int))
         } else if name == self.truth.as_str() {

@@ -1,8 +1,3 @@
-use Rattle.std.proofs.Common.{◌≡◌, IfOk, is_some, sym, subst}
-use Rattle.hs_expr.specs.NameExprs.{expr_tree}
-use Rattle.hs_expr.specs.Steps.{GivesBy}
-use Rattle.hs_eval.specs.Checking.{check_tree}
-use Rattle.hs_faults.specs.StatementFaults as spec
 use Rattle.hs_faults.proofs.Expressions.{as_rule_fault, depth_given, kind_given}
 use Rattle.hs_faults.proofs.scope.check_expr.Goals as goal
 

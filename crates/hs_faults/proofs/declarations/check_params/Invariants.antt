@@ -2,7 +2,7 @@ use Rattle.std.proofs.Common.{◌≡◌, drop, take}
 use Rattle.hs_expr.specs.Verdict.{each_from, verdict}
 use Rattle.hs_faults.specs.Declarations.{faults_of_params, param_faults}
 use Rattle.hs_faults.specs.Named.{Knows}
-use Rattle.hs_faults.proofs.declarations.params_by_name.Given as goal
+use Rattle.hs_faults.proofs.declarations.check_params.Given as goal
 
 abbrev pub invariant-loop-param : goal.invariant-loop-param
 invariant-loop-param l = record {

@@ -4,7 +4,7 @@ use Rattle.hs_expr.specs.Verdict.{verdict}
 use Rattle.hs_faults.specs.Depths.{is_flat}
 use Rattle.hs_faults.specs.StatementFaults.{slot_set_by, statement_faults}
 use Rattle.hs_faults.specs.Written.{HasSlots}
-use Rattle.hs_faults.proofs.statement_faults.check_statements.Given as goal
+use Rattle.hs_faults.proofs.statement_faults.check_each_statement.Given as goal
 
 abbrev pub invariant-loop-statement : goal.invariant-loop-statement
 invariant-loop-statement l = record {

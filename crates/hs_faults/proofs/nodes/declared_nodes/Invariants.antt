@@ -1,7 +1,0 @@
-use Rattle.std.proofs.Common.{◌≡◌, ◌++◌, drop}
-use Rattle.hs_expr.specs.Verdict.{each_from}
-use Rattle.hs_faults.specs.Nodes.{declared_nodes, nodes_of_item}
-use Rattle.hs_faults.proofs.nodes.declared_nodes.Given as goal
-
-abbrev pub invariant-loop-i : goal.invariant-loop-i
-invariant-loop-i l = l.nodes ++ each_from nodes_of_item l.i (drop l.i l.items) ≡ declared_nodes l.items
