@@ -1,4 +1,4 @@
--- The blocks of a rule: they differ, and what stands in a forbid or require block is preserved.
+-- The blocks of a rule: they differ, and what is in a forbid or require block is preserved.
 use Rattle.std.proofs.Common.{ℕ, suc, ◌+◌, ◌≡◌, inl, inr, ◌&&◌, ◌++◌, List, [], ◌∷◌, Bool, true, false, length, slice_get, Some, refl, ap, sym, ◌∙◌, arith, take}
 use Rattle.std.proofs.lemmas.Bool.{and_parts, cases_eq, false≢true, ne_eqb}
 use Rattle.std.proofs.lemmas.List.Elements.{All-append, All-cons, All-nil, All-weaker}
@@ -235,7 +235,7 @@ multis_counted n (item.Forbid es ∷ items) = multis_counted (n + 1) items
 multis_counted n (item.Require es ∷ items) = multis_counted (n + 1) items
 multis_counted n (item.Multi ss ∷ items) = ap suc (multis_counted (n + 1) items)
 
--- ---- what stands in a pattern is preserved
+-- ---- what is in a pattern is preserved
 
 -- The node is preserved, where it is one of a forbid or require block.
 abbrev pub KeepsNode : DeclaredNode → Type 0

@@ -35,7 +35,7 @@ use Rattle.hs_expr.proofs.Items.{All-at}
 
 -- ---- by number
 
--- An item that a name finds stands at the number of the name.
+-- An item that a name finds is at the number of the name.
 pub record AtNumber {A : Type 0} (name_of : A → Name) (xs : List A) (name : List ℕ) (x : A) : Type 0 where
   pub place : ℕ
   pub numbered : place_among (map (λ (item : A). (name_of item).text) xs) name ≡ Some place

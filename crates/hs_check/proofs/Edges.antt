@@ -49,7 +49,7 @@ feature_at_spot m nodes n name p f at named = ap (option_and_then (λ (node : Pa
 pub number_at_spot : (m : Metamodel) (nodes : List PatternNode) (name : List ℕ) (d : DeclaredNode) → Spot m nodes name d → node_number nodes name ≡ position_or_len (called name) nodes
 number_at_spot m nodes name d s = ap (λ (o : Option ℕ). unwrap_or o 0) s.number_is
 
--- What stands at the number of a name.
+-- What is at the number of a name.
 pub node_at_spot : (m : Metamodel) (nodes : List PatternNode) (name : List ℕ) (d : DeclaredNode) → Spot m nodes name d → slice_get nodes (node_number nodes name) ≡ Some (node_meant m d)
 node_at_spot m nodes name d s = ap (slice_get nodes) (number_at_spot m nodes name d s) ∙ s.at
 

@@ -28,13 +28,13 @@ EachPair-map R f (x ∷ xs) d = (all_mapped (R (f x)) f xs d.0, EachPair-map R f
     all_mapped P f [] a = All-nil P
     all_mapped {A} P f (x ∷ xs) a = All-cons P (f x) (map f xs) (All-head (λ (x : A). P (f x)) x xs a) (all_mapped P f xs (All-tail (λ (x : A). P (f x)) x xs a))
 
--- What comes behind goes on from the end of the front.
-pub slice_get-behind : {A : Type 0} (xs ys : List A) (i n : ℕ) → n ≡ length xs + i → slice_get (xs ++ ys) n ≡ slice_get ys i
-slice_get-behind [] ys i n e = let same : n ≡ i = omega arith in ap (slice_get ys) same
-slice_get-behind (x ∷ xs) ys i zero e = absurd (omega arith)
-slice_get-behind (x ∷ xs) ys i (suc n) e = slice_get-behind xs ys i n (omega arith)
+-- The rest continues after the end of the front.
+pub slice_get-rest : {A : Type 0} (xs ys : List A) (i n : ℕ) → n ≡ length xs + i → slice_get (xs ++ ys) n ≡ slice_get ys i
+slice_get-rest [] ys i n e = let same : n ≡ i = omega arith in ap (slice_get ys) same
+slice_get-rest (x ∷ xs) ys i zero e = absurd (omega arith)
+slice_get-rest (x ∷ xs) ys i (suc n) e = slice_get-rest xs ys i n (omega arith)
 
--- There are at most n items, where none stands behind n others.
+-- There are at most n items, where none follows n others.
 pub few_items : {A : Type 0} (n : ℕ) (xs : List A) → ((k : ℕ) (x : A) → slice_get xs k ≡ Some x → nat_le n (length (take k xs)) ≡ false) → length xs ≤ n
 few_items n xs h = elim (slice_get_cases xs n).1 [
   | inl there ↦
@@ -166,7 +166,7 @@ find-filter_map {A} {B} p q f (z ∷ xs) x y agree e made = go (p z) refl e (fin
         ap (λ (o : Option B). find q (cons_option o (filter_map f xs))) same ∙ chosen (q y) (agree z y same ∙ t) (find q (filter_map f xs))
     go false t e rest = later (f z) refl t (rest e made)
 
--- Where the front has none, the first that passes comes behind it.
+-- Where the front has none, the first that passes follows it.
 pub found_behind : {A : Type 0} (p : A → Bool) (xs ys : List A) → find p xs ≡ None → length xs ≤ position_or_len p (xs ++ ys)
 found_behind p [] ys e = omega arith
 found_behind {A} p (x ∷ xs) ys e = go (p x) e (found_behind p xs ys)

@@ -127,7 +127,7 @@ clean m rule e =
       limits = yes_test (keeps_limits m rule) _ d.1;
     }
 
--- What is found of each rule of these, behind those before, where nothing is found of all.
+-- What is found of each rule of these, after those before, where nothing is found of all.
 rules_at : (m : Metamodel) (before : List Rule) (definitions : List Definition) → rule_faults_after m before definitions ≡ [] → (k : ℕ) (rule : Rule) → slice_get (rules_of definitions) k ≡ Some rule → faults_of_rule m (before ++ take k (rules_of definitions)) rule ≡ []
 rules_at m before [] e k rule at = absurd (none-some rule at)
 rules_at m before (definition.Rule first ∷ definitions) e zero rule at =
@@ -141,7 +141,7 @@ rules_at m before (definition.Unit unit ∷ definitions) e k rule at =
     ap (λ (b : List Rule). faults_of_rule m (b ++ take k (rules_of definitions)) rule) (sym (append-nil before))
     ∙ rules_at m (before ++ []) definitions e k rule at
 
--- A rule behind those before it, of which nothing is found.
+-- A rule after those before it, of which nothing is found.
 pub record NextRule (m : Metamodel) (before : List Rule) (rule : Rule) : Type 0 where
   pub few : nat_le 64 (length before) ≡ false
   pub new : is_again (λ (other : Rule). other.name) before rule.name ≡ false

@@ -91,7 +91,7 @@ clean_unit m rules units unit e =
     kind_of_param : faults_of_unit_params m unit.params ≡ [] → (k : ℕ) (p : Param) → slice_get unit.params k ≡ Some p → unit_kind_faults m p ≡ []
     kind_of_param e k p at = (empty_parts (fault_if (is_again (λ (other : Param). other.name) (take k unit.params) p.name) _) (unit_kind_faults m p) (at_param e k p at)).1
 
--- A unit behind those before it, of which nothing is found.
+-- A unit after those before it, of which nothing is found.
 record NextUnit (m : Metamodel) (rules : List Rule) (units before : List WrittenUnit) (unit : WrittenUnit) : Type 0 where
   few : nat_le 64 (length before) ≡ false
   no_rule : is_some (first_rule rules unit.name.text) ≡ false
@@ -106,7 +106,7 @@ next_unit m rules units before unit e =
     let c = empty_parts (fault_if again _) (faults_in_unit m rules units unit) b.1 in
     record { few = no_test _ _ a.0; no_rule = no_test _ _ b.0; new = no_test _ _ c.0; clean = clean_unit m rules units unit c.1 }
 
--- What is found of each unit of these, behind those before, where nothing is found of all.
+-- What is found of each unit of these, after those before, where nothing is found of all.
 units_at : (m : Metamodel) (rules : List Rule) (units before : List WrittenUnit) (definitions : List Definition) → unit_faults_after m rules units before definitions ≡ [] → (k : ℕ) (unit : WrittenUnit) → slice_get (units_of definitions) k ≡ Some unit → faults_of_unit m rules units (before ++ take k (units_of definitions)) unit ≡ []
 units_at m rules units before [] e k unit at = absurd (none-some unit at)
 units_at m rules units before (definition.Unit first ∷ definitions) e zero unit at =

@@ -36,18 +36,18 @@ use Rattle.hs_check.proofs.Filters.{All-filter_map}
 use Rattle.hs_check.proofs.Scopes.{agree, scope_with}
 use Rattle.hs_check.proofs.NoFaults.{Clean, sound_where}
 
--- The nodes that a part of a rule may name, behind those before its own.
+-- The nodes that a part of a rule may name, after those before its own.
 abbrev pub visible_nodes : Metamodel → Rule → BlockId → List PatternNode → List PatternNode
 visible_nodes m rule part before = before ++ nodes_in m (declared_nodes rule.items) part
 
--- What the names of its expressions stand for, and the kinds of what they read.
+-- What the names of its expressions denote, and the kinds of what they read.
 abbrev pub names_in : Metamodel → Rule → BlockId → Names
 names_in m rule part = rule_scope m (data_params rule.params) (declared_nodes rule.items) part
 
 abbrev pub scope_in : Metamodel → Rule → BlockId → List PatternNode → Scope
 scope_in m rule part before = scope_with m (params_meant m rule.params) (visible_nodes m rule part before)
 
--- What is checked of a statement, behind those before it.
+-- What is checked of a statement, after those before it.
 abbrev pub IsRight : Metamodel → Rule → ℕ → Statement → Type 0
 IsRight m rule k s = statement_checked m (data_params rule.params) (declared_nodes rule.items) (flat_map slot_set_by (take k (statements rule.items))) s ≡ Ok tt
 

@@ -1,4 +1,4 @@
--- What names stand for in the expressions of a part of a rule has there the kind that it is said to have.
+-- What names denote in the expressions of a part of a rule has there the kind that it is said to have.
 use Rattle.std.proofs.Common.{ℕ, ◌+◌, ◌≡◌, ◌&&◌, ◌++◌, List, [], ◌∷◌, Bool, true, false, slice_get, is_some, Option, Some, None, if◌then◌else◌, refl, ap, ap₂, sym, ◌∙◌, subst, arith}
 use Rattle.std.proofs.lemmas.Bool.{and_from, false≢true}
 use Rattle.std.proofs.lemmas.List.Elements.{All-cons, All-nil}
@@ -124,7 +124,7 @@ slots_agree m ds part before opens owner name d n a named is of_node =
     ap (option_and_then (λ (node : PatternNode). if is_left node.mark && has (attributes_of m node.class) a.0 then option_map kind_of_type (type_of m a.0) else None)) (ap (slice_get (before ++ nodes_in m ds part)) (sym is.number) ∙ opens.numbered owner d seen)
     ∙ ap (λ (b : Bool). if b then option_map kind_of_type (type_of m a.0) else None) (and_from (is_left (mark_meant d.mark)) (has (attributes_of m class) a.0) is.left there) ∙ type.1
 
--- What the names of a part stand for has its kind among the nodes that the part may name.
+-- What the names of a part denote has its kind among the nodes that the part may name.
 pub agree : (m : Metamodel) (rule : Rule) → Clean m rule → (part : BlockId) (before : List PatternNode) → Opens m (declared_nodes rule.items) part before →
     Agrees (rule_scope m (data_params rule.params) (declared_nodes rule.items) part) (scope_with m (params_meant m rule.params) (before ++ nodes_in m (declared_nodes rule.items) part))
 agree m rule clean part before opens = record {

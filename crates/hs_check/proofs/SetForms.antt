@@ -82,7 +82,7 @@ not_there : (o : Option (List ℕ)) (d : ℕ) → o ≡ None → IsSomeAnd o (λ
 not_there None d e is = is
 not_there (Some numbers) d e is = cc
 
--- Nothing stands below what isn't there.
+-- Nothing is below what isn't there.
 pub none_below : (supers : List (List ℕ)) (c d : ℕ) → slice_get supers c ≡ None → Reaches supers c d → ⊥
 none_below supers c d none (direct _ _ step) = not_there (slice_get supers c) d none step
 none_below supers c e none (by_way_of _ d _ step rest) = not_there (slice_get supers c) d none step
@@ -113,7 +113,7 @@ set_formed m definitions is clean = record {
 pub sets_formed : (m : Metamodel) (definitions : List Definition) → IsMeta m → faults_of m definitions ≡ [] → form.IsRuleSet m (rules_meant m definitions) (units_meant m definitions)
 sets_formed m definitions is none = set_formed m definitions is (clean_text m definitions none)
 
--- The rules and the units that a text means are a set, where the check tells no fault.
+-- The rules and the units that a text means are a set, where the check reports no fault.
 pub checked_formed : (m : Metamodel) (definitions : List Definition) (rules : List Rule) (units : List RuleUnit) → verdict (faults_of m definitions) ≡ Ok tt → rules ≡ rules_meant m definitions → units ≡ units_meant m definitions → IsMeta m → form.IsRuleSet m rules units
 checked_formed m definitions rules units none rules_are units_are is =
     rw (rules_are, units_are) (sets_formed m definitions is (none-from_verdict (faults_of m definitions) none))

@@ -40,7 +40,7 @@ stays_is written.Preserve e = refl
 stays_is written.Create e = refl
 stays_is written.Delete e = absurd (false≢true (sym e))
 
--- A set fits by what stands at its numbers.
+-- A set fits by what is at its numbers.
 set_at : (m : Metamodel) (scope : Scope) (nodes : List PatternNode) (item : SetItem) (node : PatternNode) → slice_get nodes item.node ≡ Some node → not (is_drop node.mark) ≡ true → has (attributes_of m node.class) item.attribute ≡ true →
     kind_in scope item.value ≡ option_map kind_of_type (type_of m item.attribute) → SetFits m scope nodes item
 set_at m scope nodes item node at stays there of_kind = (rw at (stays, there), of_kind)

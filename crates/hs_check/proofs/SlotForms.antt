@@ -23,7 +23,7 @@ use Rattle.hs_types.specs.Pattern.{is_drop, is_keep, is_kind, is_left, node_is}
 use Rattle.hs_types.specs.RuleForm.{AreSlots, SetFits, SlotBefore, has_slot, is_read, is_set, slot_kind}
 use Rattle.hs_check.specs.Slots.{is_used, slot_at, slot_with, slots_at_node, slots_from}
 use Rattle.hs_check.proofs.Visibility.{number_there}
-use Rattle.hs_check.proofs.Filters.{EachPair-from, EachPair-map, slice_get-behind}
+use Rattle.hs_check.proofs.Filters.{EachPair-from, EachPair-map, slice_get-rest}
 use Rattle.hs_expr.proofs.Items.{All-at, All-each_from, All-from, any_at}
 use Rattle.hs_expr.proofs.Lists.{EachPair-append, EachPair-filter}
 
@@ -52,7 +52,7 @@ features_differ m is c = go (class_at m c) refl
     go (Some class) at = differ_before (λ f. option_map (λ feature. feature.name) (feature_at m f)) class.features
         (All-at (λ (k : Class). Differ (map (λ f. option_map (λ feature. feature.name) (feature_at m f)) k.features)) m.classes c class is.features_differ at)
 
--- A number stands first where it stands.
+-- A number's first place is where it is.
 stands_first : (fs : List ℕ) (i a : ℕ) → Differ fs → slice_get fs i ≡ Some a → position_or_len (eqb a) fs ≡ i
 stands_first [] i a d at = absurd (none-some a at)
 stands_first (f ∷ fs) zero a d at = go (eqb a f) (eq-eqb a f (sym (same_Some f a at)))
@@ -133,7 +133,7 @@ features_in_order m is nodes sets n node at = EachPair-from (AttributeBefore m n
     let before : position_or_len (eqb a) (features_of m node.class) < position_or_len (eqb b) (features_of m node.class) = omega (arith, first, second) in
     inr (refl, rw at before))
 
--- Attributes of one class stand in the order of its features.
+-- Attributes of one class are in the order of its features.
 in_class : (m : Metamodel) → IsMeta m → (nodes : List PatternNode) (reads : List SlotRead) (sets : List SetItem) (n : ℕ) (node : PatternNode) → slice_get nodes n ≡ Some node → EachPair (SlotBefore m nodes) (slots_at_node m reads sets n node)
 in_class m is nodes reads sets n node at = go (is_left node.mark)
   where
@@ -183,14 +183,14 @@ known m nodes n a e = go (slice_get nodes n) refl e
 own_at : (before own : List PatternNode) (n : ℕ) (node : PatternNode) → length before ≤ n → slice_get (before ++ own) n ≡ Some node → (i : ℕ) × (n ≡ length before + i) × (slice_get own i ≡ Some node)
 own_at before own n node low at =
     let e : n ≡ length before + (n - length before) = omega arith in
-    (n - length before, e, sym (slice_get-behind before own (n - length before) n e) ∙ at)
+    (n - length before, e, sym (slice_get-rest before own (n - length before) n e) ∙ at)
 
 -- The reads that make slots of these nodes are those of which the rule's form speaks.
 abbrev pub SameReads : List SlotRead → List SlotRead → ℕ → ℕ → Type 0
 SameReads reads those low high = (n a : ℕ) → low ≤ n → n < high → is_read_at reads n a ≡ is_read_at those n a
 
 placed : (before own : List PatternNode) (i : ℕ) (node : PatternNode) → slice_get own i ≡ Some node → slice_get (before ++ own) (length before + i) ≡ Some node
-placed before own i node here = slice_get-behind before own i (length before + i) refl ∙ here
+placed before own i node here = slice_get-rest before own i (length before + i) refl ∙ here
 
 -- What holds of each slot that is read or set, at a left node, holds of all.
 of_each : (m : Metamodel) (P : PatternSlot → Type 0) (before own : List PatternNode) (reads : List SlotRead) (sets : List SetItem) →

@@ -31,7 +31,7 @@ names_apart {T} name_of xs h i j x y low at_i at_j same =
     let there = find_some (λ (item : T). same_text (name_of y).text (name_of item).text) (take j xs) i x (slice_get-take xs j i low ∙ at_i) (same_text-from (name_of y).text (name_of x).text (sym same)) in
     false≢true (sym (h j y at_j) ∙ there)
 
--- Items of one name stand at one place.
+-- Items of one name are at one place.
 pub one_place : {T : Type 0} (name_of : T → Name) (xs : List T) → HaveOwn name_of xs → (i j : ℕ) (x y : T) → slice_get xs i ≡ Some x → slice_get xs j ≡ Some y → (name_of x).text ≡ (name_of y).text → i ≡ j
 one_place name_of xs h i j x y at_i at_j same = elim (cases_order i j) [
   | inl here ↦ here

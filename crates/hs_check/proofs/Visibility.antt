@@ -19,7 +19,7 @@ use Rattle.hs_faults.specs.StatementFaults.{visible_node, same_block}
 use Rattle.hs_check.specs.Elements.{node_found, node_meant, nodes_in}
 use Rattle.hs_check.specs.Parameters.{class_meant}
 use Rattle.hs_check.proofs.Uniqueness.{HaveOwn, only_one, opened}
-use Rattle.hs_check.proofs.Filters.{All-filter_map, filtered, find-filter_map, find_here, found_behind, passes, slice_get-behind, where_passes}
+use Rattle.hs_check.proofs.Filters.{All-filter_map, filtered, find-filter_map, find_here, found_behind, passes, slice_get-rest, where_passes}
 use Rattle.hs_expr.proofs.Items.{find_none}
 use Rattle.hs_expr.proofs.Lists.{slice_get-first}
 
@@ -73,7 +73,7 @@ position_there p xs low = cond-true (nat_lt (position_or_len p xs) (length xs)) 
 pub number_there : (n : ℕ) → n < 65536 → as_number n ≡ Some n
 number_there n low = cond-true (nat_lt n 65536) (Some n) None (lt-ltb n 65536 low)
 
--- What a name finds among few stands at the number of the name.
+-- What a name finds among few is at the number of the name.
 pub place_there : {A : Type 0} (p : A → Bool) (xs : List A) (x : A) → length xs ≤ 65536 → find p xs ≡ Some x → (option_and_then as_number (position p xs) ≡ Some (position_or_len p xs)) × (slice_get xs (position_or_len p xs) ≡ Some x)
 place_there p xs x few found =
     let at = sym (find_at p xs) ∙ found in
@@ -90,7 +90,7 @@ pub record Spot (m : Metamodel) (nodes : List PatternNode) (name : List ℕ) (d 
   pub at : slice_get nodes (position_or_len (called name) nodes) ≡ Some (node_meant m d)
   pub class : class_number m d.class.text ≡ Some (class_meant m d.class.text)
 
--- Each node that this part may name is found among its nodes, which stand behind these, and its own are not among these.
+-- Each node that this part may name is found among its nodes, which follow these, and its own are not among these.
 pub record Opens (m : Metamodel) (ds : List DeclaredNode) (part : BlockId) (before : List PatternNode) : Type 0 where
   pub found : (name : List ℕ) (d : DeclaredNode) → visible_node ds part name ≡ Some d → Spot m (before ++ nodes_in m ds part) name d
   pub own : (name : List ℕ) (d : DeclaredNode) → visible_node ds part name ≡ Some d → same_block part d.block ≡ true → length before ≤ position_or_len (called name) (before ++ nodes_in m ds part)
@@ -105,7 +105,7 @@ kernel_home (home.Multi i) = refl
 abbrev pub AreNumbered : List DeclaredNode → Type 0
 AreNumbered ds = (k : ℕ) (d : DeclaredNode) → slice_get ds k ≡ Some d → d.number ≡ number_of_node ds (take k ds) d
 
--- What is made of an item stands where as many are counted before it.
+-- What is made of an item is where as many are counted before it.
 pub counted_at : {A B : Type 0} (p : A → Bool) (f : A → B) (xs : List A) (k : ℕ) (x : A) → slice_get xs k ≡ Some x → p x ≡ true → slice_get (map f (filter p xs)) (length (filter p (take k xs))) ≡ Some (f x)
 counted_at p f [] k x at e = absurd (none-some x at)
 counted_at {A} {B} p f (y ∷ xs) zero x at e = go (p y) (ap p (same_Some y x at) ∙ e)
@@ -120,7 +120,7 @@ counted_at {A} {B} p f (y ∷ xs) (suc k) x at e = go (p y) (counted_at p f xs k
     go true rest = rest
     go false rest = rest
 
--- A node stands at its number.
+-- A node is at its number.
 number_here : {A : Type 0} (nodes : List A) (x : A) (place number : ℕ) → length nodes ≤ 65536 → slice_get nodes place ≡ Some x → number ≡ number_at place → slice_get nodes number ≡ Some x
 number_here nodes x place number few at is =
     let low = slice_get_within nodes place x at in
@@ -216,11 +216,11 @@ opens_block m ds own all numbered part block few = record { found = there; numbe
               let one : d.block ≡ part = sym (homes_same part d.block of_part) in
               let many : length kernel ≡ count_in ds home.Kernel = length-map (filter (λ (node : DeclaredNode). same_block home.Kernel node.block) ds) (node_meant m) in
               number_here (kernel ++ nodes_in m ds part) (node_meant m d) (length kernel + place) d.number few
-              (slice_get-behind kernel (nodes_in m ds part) place (length kernel + place) refl ∙ counted_at (λ (node : DeclaredNode). same_block part node.block) (node_meant m) ds here.0 d here.1 of_part)
+              (slice_get-rest kernel (nodes_in m ds part) place (length kernel + place) refl ∙ counted_at (λ (node : DeclaredNode). same_block part node.block) (node_meant m) ds here.0 d here.1 of_part)
               (numbered here.0 d here.1 ∙ ap (λ (h : BlockId). number_at (first_number ds h + count_in (take here.0 ds) h)) one
               ∙ ap (λ (b : Bool). number_at ((if b then 0 else count_in ds home.Kernel) + place)) block ∙ ap (λ n. number_at (n + place)) (sym many))
         ]
 
--- What stands at the number of a name has the name.
+-- What is at the number of a name has the name.
 pub spot_called : (nodes : List PatternNode) (name : List ℕ) (p : PatternNode) → slice_get nodes (position_or_len (called name) nodes) ≡ Some p → called name p ≡ true
 spot_called nodes name p at = (find_here (called name) nodes p (find_at (called name) nodes ∙ at)).2

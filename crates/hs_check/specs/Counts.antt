@@ -25,13 +25,15 @@ is_set_of part (Edge home mark source target reference) = false
 is_set_of part (Set home node attribute value) = same_block part home
 is_set_of part (Where home word test) = false
 
--- How many conditions and how many sets stand in this part of the rule.
+-- How many conditions and how many sets this block has.
 abbrev pub counts_in : List Statement → BlockId → ℕ × ℕ
-counts_in statements part = (length (filter (is_where_of part) statements), length (filter (is_set_of part) statements))
+counts_in statements part =
+    (length (filter (is_where_of part) statements), length (filter (is_set_of part) statements))
 
 -- The counts of a rule's text: of the kernel, and then of each multi block in written order.
 abbrev pub written_counts : WrittenRule → List (ℕ × ℕ)
-written_counts rule = map (counts_in (statements rule.items)) (home.Kernel ∷ each multi_at rule.items)
+written_counts rule =
+    map (counts_in (statements rule.items)) (home.Kernel ∷ each multi_at rule.items)
 
 abbrev pub multi_counts : Multi → ℕ × ℕ
 multi_counts multi = (length multi.wheres, length multi.sets)

@@ -16,7 +16,11 @@ use Rattle.hs_faults.specs.StatementFaults.{same_block}
 use Rattle.hs_check.specs.Parameters.{class_meant}
 
 abbrev pub node_meant : Metamodel → DeclaredNode → PatternNode
-node_meant m node = record { name = node.name.text; class = class_meant m node.class.text; mark = mark_meant node.mark }
+node_meant m node = record {
+  name = node.name.text;
+  class = class_meant m node.class.text;
+  mark = mark_meant node.mark;
+}
 
 -- The nodes that one part of the rule declares, in written order.
 abbrev pub nodes_in : Metamodel → List DeclaredNode → BlockId → List PatternNode
@@ -24,14 +28,16 @@ nodes_in m declared part = map (node_meant m) (filter (λ node. same_block part 
 
 -- The number of the node of this name: its place among those that a part of the rule may name.
 abbrev pub node_found : List PatternNode → List ℕ → Option ℕ
-node_found nodes name = option_and_then as_number (position (λ node. same_text name node.name) nodes)
+node_found nodes name =
+    option_and_then as_number (position (λ node. same_text name node.name) nodes)
 
 abbrev pub node_number : List PatternNode → List ℕ → ℕ
 node_number nodes name = unwrap_or (node_found nodes name) 0
 
 -- The feature of this name in the class of node n.
 abbrev pub feature_found : Metamodel → List PatternNode → ℕ → List ℕ → Option ℕ
-feature_found m nodes n name = option_and_then (λ node. feature_named m node.class name) (slice_get nodes n)
+feature_found m nodes n name =
+    option_and_then (λ node. feature_named m node.class name) (slice_get nodes n)
 
 abbrev pub feature_number : Metamodel → List PatternNode → ℕ → List ℕ → ℕ
 feature_number m nodes n name = unwrap_or (feature_found m nodes n name) 0
@@ -47,10 +53,13 @@ edge_meant m nodes mark source target reference = record {
 
 -- The edge that a statement means, if it is an edge of this part of the rule.
 abbrev pub edge_in : Metamodel → List PatternNode → BlockId → Statement → Option PatternEdge
-edge_in m nodes part (Edge home mark source target reference) = if same_block part home then Some (edge_meant m nodes (mark_meant mark) source.text target.text reference.text) else None
+edge_in m nodes part (Edge home mark source target reference) =
+    if same_block part home then Some
+    (edge_meant m nodes (mark_meant mark) source.text target.text reference.text) else None
 edge_in m nodes part (Set home node attribute value) = None
 edge_in m nodes part (Where home word test) = None
 
 -- The edges of one part of the rule, in written order. The part may name these nodes.
-abbrev pub edges_of_part : Metamodel → List PatternNode → List Statement → BlockId → List PatternEdge
+abbrev pub edges_of_part : Metamodel → List PatternNode → List Statement → BlockId
+    → List PatternEdge
 edges_of_part m nodes statements part = filter_map (edge_in m nodes part) statements

@@ -27,7 +27,8 @@ expr_meant names expr = expr_found (check_tree names (expr_tree expr))
 abbrev pub where_in : Names → BlockId → Statement → Option Expr
 where_in names part (Edge home mark source target reference) = None
 where_in names part (Set home node attribute value) = None
-where_in names part (Where home word test) = if same_block part home then expr_meant names test else None
+where_in names part (Where home word test) =
+    if same_block part home then expr_meant names test else None
 
 -- The conditions of one part of the rule, in written order.
 abbrev pub wheres_in : Names → List Statement → BlockId → List Expr
@@ -45,7 +46,8 @@ set_meant m nodes node attribute value = record {
 abbrev pub set_in : Metamodel → Names → List PatternNode → BlockId → Statement → Option SetItem
 set_in m names nodes part (Edge home mark source target reference) = None
 set_in m names nodes part (Set home node attribute value) =
-    if same_block part home then option_map (set_meant m nodes node.text attribute.text) (expr_meant names value) else None
+    if same_block part home then option_map (set_meant m nodes node.text attribute.text)
+    (expr_meant names value) else None
 set_in m names nodes part (Where home word test) = None
 
 -- The sets of one part of the rule, in written order.

@@ -8,4 +8,5 @@ use Rattle.hs_check.specs.Units.{units_meant}
 
 -- The rule set has the rules and the units that the text means.
 abbrev pub IsMeant : Metamodel → List Definition → RuleSet → Type 0
-IsMeant m definitions set = (set.rules ≡ rules_meant m definitions) × (set.units ≡ units_meant m definitions)
+IsMeant m definitions set =
+    (set.rules ≡ rules_meant m definitions) × (set.units ≡ units_meant m definitions)

@@ -1,4 +1,5 @@
--- What parameters mean. What isn't found has the number 0, here and in the files beside this one; a text without faults names nothing such.
+-- What parameters mean. What isn't found has the number 0, here and in the files beside this one; a
+-- text without faults names nothing such.
 use Rattle.std.specs.Prelude.{ℕ, List, map}
 use Rattle.std.specs.Option.{option_map_or, unwrap_or}
 use Rattle.hs_text.specs.declared.syntax.Direction.{Direction as WrittenDirection}
@@ -25,7 +26,11 @@ abbrev pub kind_meant : Metamodel → List ℕ → ParamKind
 kind_meant m word = option_map_or Data (data_named word) (Object (class_meant m word))
 
 abbrev pub param_meant : Metamodel → WrittenParam → Param
-param_meant m param = record { direction = direction_meant param.direction; name = param.name.text; kind = kind_meant m param.kind.text }
+param_meant m param = record {
+  direction = direction_meant param.direction;
+  name = param.name.text;
+  kind = kind_meant m param.kind.text;
+}
 
 -- The parameters of a rule or a unit, in written order.
 abbrev pub params_meant : Metamodel → List WrittenParam → List Param

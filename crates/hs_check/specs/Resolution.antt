@@ -32,12 +32,16 @@ nodes_seen m declared block = nodes_before m declared block ++ nodes_in m declar
 
 -- There is a node of this name, and its class has a feature of that name.
 abbrev pub finds_feature : Metamodel → List PatternNode → List ℕ → List ℕ → Bool
-finds_feature m nodes name feature = is_some (option_and_then (λ n. feature_found m nodes n feature) (node_found nodes name))
+finds_feature m nodes name feature =
+    is_some (option_and_then (λ n. feature_found m nodes n feature) (node_found nodes name))
 
 -- The nodes of the statement are found, and its reference or attribute.
 abbrev pub statement_resolves : Metamodel → List DeclaredNode → Statement → Bool
-statement_resolves m declared (Edge block mark source target reference) = finds_feature m (nodes_seen m declared block) source.text reference.text && is_some (node_found (nodes_seen m declared block) target.text)
-statement_resolves m declared (Set block node attribute value) = finds_feature m (nodes_seen m declared block) node.text attribute.text
+statement_resolves m declared (Edge block mark source target reference) =
+    finds_feature m (nodes_seen m declared block) source.text reference.text
+    && is_some (node_found (nodes_seen m declared block) target.text)
+statement_resolves m declared (Set block node attribute value) =
+    finds_feature m (nodes_seen m declared block) node.text attribute.text
 statement_resolves m declared (Where block word test) = true
 
 -- The kind of the parameter is one of data, or a class that is there.
@@ -49,7 +53,9 @@ node_resolves m node = is_some (class_number m node.class.text)
 
 -- What the call names is a rule or a unit.
 abbrev pub call_resolves : Callees → Call → Bool
-call_resolves known call = is_some (place_among known.rules call.callee.text) || is_some (place_among known.units call.callee.text)
+call_resolves known call =
+    is_some (place_among known.rules call.callee.text)
+    || is_some (place_among known.units call.callee.text)
 
 abbrev pub rule_resolves : Metamodel → Rule → Bool
 rule_resolves m rule =
@@ -58,8 +64,13 @@ rule_resolves m rule =
     && list_all (statement_resolves m (declared_nodes rule.items)) (statements rule.items))
 
 abbrev pub unit_resolves : Metamodel → Callees → WrittenUnit → Bool
-unit_resolves m known unit = list_all (param_resolves m) unit.params && list_all (call_resolves known) (written_calls unit.body)
+unit_resolves m known unit =
+    list_all (param_resolves m) unit.params
+    && list_all (call_resolves known) (written_calls unit.body)
 
--- What parameters, declared nodes, edges and the targets of sets name is found, and what calls name. Names in expressions and in binds are not spoken of.
+-- What parameters, declared nodes, edges and the targets of sets name is found, and what calls
+-- name. Names in expressions and in binds are not spoken of.
 abbrev pub Resolve : Metamodel → List Definition → Type 0
-Resolve m definitions = (list_all (rule_resolves m) (rules_of definitions) ≡ true) × (list_all (unit_resolves m (callees definitions)) (units_of definitions) ≡ true)
+Resolve m definitions =
+    (list_all (rule_resolves m) (rules_of definitions) ≡ true)
+    × (list_all (unit_resolves m (callees definitions)) (units_of definitions) ≡ true)

@@ -29,14 +29,19 @@ use Rattle.hs_check.specs.Expressions.{sets_in, wheres_in}
 use Rattle.hs_check.specs.Parameters.{params_meant}
 use Rattle.hs_check.specs.Slots.{slots_from}
 
--- What a rule declares and says: its parameters for data, the nodes of the kernel and of all blocks, and the statements about them.
+-- What a rule declares and says: its parameters for data, the nodes of the kernel and of all
+-- blocks, and the statements about them.
 pub record RuleContents : Type 0 where
   pub params : List DataParam
   pub nodes : List DeclaredNode
   pub statements : List Statement
 
 abbrev pub rule_contents : WrittenRule → RuleContents
-rule_contents rule = record { params = data_params rule.params; nodes = declared_nodes rule.items; statements = statements rule.items }
+rule_contents rule = record {
+  params = data_params rule.params;
+  nodes = declared_nodes rule.items;
+  statements = statements rule.items;
+}
 
 -- The blocks of each sort, in written order.
 abbrev pub forbid_at : ℕ → Item → List BlockId
@@ -58,40 +63,61 @@ multi_at i (item.Require elements) = []
 multi_at i (item.Multi simples) = home.Multi i ∷ []
 
 -- A forbid or require block. The numbers of its nodes go on from the kernel's.
-abbrev pub part_with : Metamodel → RuleContents → List PatternNode → List PatternNode → BlockId → Part
-part_with m contents kernel own part = record { nodes = own; edges = edges_of_part m (kernel ++ own) contents.statements part }
+abbrev pub part_with : Metamodel → RuleContents → List PatternNode → List PatternNode → BlockId
+    → Part
+part_with m contents kernel own part = record {
+  nodes = own;
+  edges = edges_of_part m (kernel ++ own) contents.statements part;
+}
 
 abbrev pub part_meant : Metamodel → RuleContents → List PatternNode → BlockId → Part
-part_meant m contents kernel part = part_with m contents kernel (nodes_in m contents.nodes part) part
+part_meant m contents kernel part =
+    part_with m contents kernel (nodes_in m contents.nodes part) part
 
 -- The block with these nodes of its own, after those that have numbers before them.
-abbrev pub block_with : Metamodel → RuleContents → List PatternNode → List PatternNode → BlockId → Block
+abbrev pub block_with : Metamodel → RuleContents → List PatternNode → List PatternNode → BlockId
+    → Block
 block_with m contents before own part = record {
   nodes = own;
   edges = edges_of_part m (before ++ own) contents.statements part;
   wheres = wheres_in (rule_scope m contents.params contents.nodes part) contents.statements part;
-  sets = sets_in m (rule_scope m contents.params contents.nodes part) (before ++ own) contents.statements part;
+  sets =
+      sets_in m (rule_scope m contents.params contents.nodes part) (before ++ own)
+      contents.statements part;
 }
 
 abbrev pub block_meant : Metamodel → RuleContents → List PatternNode → BlockId → Block
-block_meant m contents before part = block_with m contents before (nodes_in m contents.nodes part) part
+block_meant m contents before part =
+    block_with m contents before (nodes_in m contents.nodes part) part
 
--- The block with its slots: those of its nodes, the first of which has this number, that are read or set.
+-- The block with its slots: those of its nodes, the first of which has this number, that are read
+-- or set.
 abbrev pub shape_with : Metamodel → List SlotRead → ℕ → Block → Shape
-shape_with m reads first block = record { nodes = block.nodes; edges = block.edges; slots = slots_from m reads block.sets first block.nodes }
+shape_with m reads first block = record {
+  nodes = block.nodes;
+  edges = block.edges;
+  slots = slots_from m reads block.sets first block.nodes;
+}
 
 -- A multi-rule, whose own numbers begin with this one.
 abbrev pub multi_of : Metamodel → ℕ → Block → Multi
-multi_of m first block = record { shape = shape_with m (reads_in block.wheres block.sets) first block; wheres = block.wheres; sets = block.sets }
+multi_of m first block = record {
+  shape = shape_with m (reads_in block.wheres block.sets) first block;
+  wheres = block.wheres;
+  sets = block.sets;
+}
 
 abbrev pub multi_meant : Metamodel → RuleContents → List PatternNode → BlockId → Multi
 multi_meant m contents kernel part = multi_of m (length kernel) (block_meant m contents kernel part)
 
 -- What a rule reads, its multi-rules included.
 abbrev pub reads_with : Block → List Multi → List SlotRead
-reads_with kernel multis = reads_in kernel.wheres kernel.sets ++ flat_map (λ multi. reads_in multi.wheres multi.sets) multis
+reads_with kernel multis =
+    reads_in kernel.wheres kernel.sets
+    ++ flat_map (λ multi. reads_in multi.wheres multi.sets) multis
 
--- The rule with this kernel and these multi-rules. A slot of the kernel that a multi-rule reads is the kernel's.
+-- The rule with this kernel and these multi-rules. A slot of the kernel that a multi-rule reads is
+-- the kernel's.
 abbrev pub rule_with : Metamodel → WrittenRule → RuleContents → Block → List Multi → Rule
 rule_with m rule contents kernel multis = record {
   name = rule.name.text;
@@ -106,7 +132,9 @@ rule_with m rule contents kernel multis = record {
 
 -- The rule with this kernel: its multi-rules go on from the kernel's nodes.
 abbrev pub rule_around : Metamodel → WrittenRule → RuleContents → Block → Rule
-rule_around m rule contents kernel = rule_with m rule contents kernel (map (multi_meant m contents kernel.nodes) (each multi_at rule.items))
+rule_around m rule contents kernel =
+    rule_with m rule contents kernel
+    (map (multi_meant m contents kernel.nodes) (each multi_at rule.items))
 
 abbrev pub rule_from : Metamodel → WrittenRule → RuleContents → Rule
 rule_from m rule contents = rule_around m rule contents (block_meant m contents [] home.Kernel)

@@ -22,15 +22,18 @@ use Rattle.hs_types.specs.declared.rule.PatternNode.{PatternNode}
 use Rattle.hs_types.specs.declared.rule.SetItem.{SetItem}
 use Rattle.hs_faults.specs.Samples.{param, place, rule_definition, word}
 
--- All words stand in column 0: what a text means doesn't depend on where its words stand.
+-- All words are in column 0: what a text denotes doesn't depend on the positions of its words.
 abbrev pub account_node : List ℕ → Element
 account_node name = element.Node (word 0 name) (word 0 (codes "Account"))
 
 abbrev pub accounts_edge : List ℕ → List ℕ → Element
-accounts_edge source target = element.Edge (word 0 source) (word 0 target) (word 0 (codes "accounts"))
+accounts_edge source target =
+    element.Edge (word 0 source) (word 0 target) (word 0 (codes "accounts"))
 
 abbrev pub balance_set : List ℕ → List ℕ → Simple
-balance_set name other = simple.Set (word 0 name) (word 0 (codes "balance")) (record { pieces = piece.Slot (word 0 other) (word 0 (codes "balance")) ∷ []; one = refl })
+balance_set name other =
+    simple.Set (word 0 name) (word 0 (codes "balance"))
+    (record { pieces = piece.Slot (word 0 other) (word 0 (codes "balance")) ∷ []; one = refl })
 
 -- rule hiring(in a: Account, in n: int, out c: Account) {
 --   forbid { node d: Account; edge d -> a: accounts; }
@@ -43,14 +46,22 @@ balance_set name other = simple.Set (word 0 name) (word 0 (codes "balance")) (re
 -- }
 abbrev pub hiring : Definition
 hiring = rule_definition (codes "open")
-    (param given.In 0 (codes "a") (codes "Account") ∷ param given.In 0 (codes "n") (codes "int") ∷ param given.Out 0 (codes "c") (codes "Account") ∷ [])
+    (param given.In 0 (codes "a") (codes "Account") ∷ param given.In 0 (codes "n") (codes "int")
+    ∷ param given.Out 0 (codes "c") (codes "Account") ∷ [])
     (item.Forbid (account_node (codes "d") ∷ accounts_edge (codes "d") (codes "a") ∷ [])
     ∷ item.Simple (simple.Marked Preserve (account_node (codes "a")))
-    ∷ item.Multi (simple.Marked Preserve (account_node (codes "b")) ∷ simple.Marked Delete (accounts_edge (codes "a") (codes "b")) ∷ balance_set (codes "b") (codes "a") ∷ [])
+    ∷ item.Multi (simple.Marked Preserve (account_node (codes "b")) ∷ simple.Marked Delete
+    (accounts_edge (codes "a") (codes "b")) ∷ balance_set (codes "b") (codes "a") ∷ [])
     ∷ item.Simple (simple.Marked Create (account_node (codes "c")))
     ∷ item.Simple (simple.Marked Create (accounts_edge (codes "a") (codes "c")))
-    ∷ item.Simple (simple.Where (place 0) (record { pieces = piece.Slot (word 0 (codes "a")) (word 0 (codes "balance")) ∷ piece.Name (word 0 (codes "n")) ∷ piece.Binary Greater (place 0) ∷ []; one = refl }))
-    ∷ item.Simple (simple.Set (word 0 (codes "c")) (word 0 (codes "balance")) (record { pieces = piece.Name (word 0 (codes "n")) ∷ []; one = refl }))
+    ∷ item.Simple (simple.Where (place 0)
+    (record {
+      pieces = piece.Slot (word 0 (codes "a")) (word 0 (codes "balance"))
+          ∷ piece.Name (word 0 (codes "n")) ∷ piece.Binary Greater (place 0) ∷ [];
+      one = refl;
+    }))
+    ∷ item.Simple (simple.Set (word 0 (codes "c")) (word 0 (codes "balance"))
+    (record { pieces = piece.Name (word 0 (codes "n")) ∷ []; one = refl }))
     ∷ [])
 
 -- What the parts of these come to.

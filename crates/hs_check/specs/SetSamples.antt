@@ -16,9 +16,18 @@ use Rattle.hs_types.specs.declared.unit.Call.{Call}
 use Rattle.hs_types.specs.declared.unit.Callee.TheVariants as callee
 use Rattle.hs_types.specs.declared.unit.Unit.{Unit as RuleUnit}
 
--- A rule of this name in which nothing stands.
+-- An empty rule of this name.
 abbrev pub empty_rule : List ℕ → Rule
-empty_rule name = record { name = name; params = []; shape = record { nodes = []; edges = []; slots = [] }; forbids = []; needs = []; multis = []; wheres = []; sets = [] }
+empty_rule name = record {
+  name = name;
+  params = [];
+  shape = record { nodes = []; edges = []; slots = [] };
+  forbids = [];
+  needs = [];
+  multis = [];
+  wheres = [];
+  sets = [];
+}
 
 abbrev pub parameter : Direction → List ℕ → ParamKind → Param
 parameter direction name kind = record { direction = direction; name = name; kind = kind }
@@ -41,17 +50,23 @@ give_text name text = Give name (atom.Value (value.Text text))
 
 -- unit pay(in into: Account, in sum: int, out paid: Account) {}
 abbrev pub params_of_pay : List Param
-params_of_pay = parameter In (codes "into") (Object 1) ∷ parameter In (codes "sum") (Data sort.Int) ∷ parameter Out (codes "paid") (Object 1) ∷ []
+params_of_pay =
+    parameter In (codes "into") (Object 1) ∷ parameter In (codes "sum") (Data sort.Int)
+    ∷ parameter Out (codes "paid") (Object 1) ∷ []
 
 abbrev pub pay : RuleUnit
 pay = sequence (codes "pay") params_of_pay []
 
 -- unit run_unit(in a: Account, in word: text, out o: Client) { pay(into = a, sum = 5, paid > o) }
 abbrev pub params_of_run : List Param
-params_of_run = parameter In (codes "a") (Object 1) ∷ parameter In (codes "word") (Data sort.Text) ∷ parameter Out (codes "o") (Object 0) ∷ []
+params_of_run =
+    parameter In (codes "a") (Object 1) ∷ parameter In (codes "word") (Data sort.Text)
+    ∷ parameter Out (codes "o") (Object 0) ∷ []
 
 abbrev pub binds_of_run : List Bind
-binds_of_run = give_name (codes "into") (codes "a") ∷ give_int (codes "sum") 5 ∷ Take (codes "paid") (codes "o") ∷ []
+binds_of_run =
+    give_name (codes "into") (codes "a") ∷ give_int (codes "sum") 5
+    ∷ Take (codes "paid") (codes "o") ∷ []
 
 abbrev pub run_unit : RuleUnit
 run_unit = sequence (codes "run") params_of_run (unit_call 1 binds_of_run ∷ [])

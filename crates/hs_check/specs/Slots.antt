@@ -28,16 +28,23 @@ is_used reads sets n a = is_read reads (slot_with n a false) || is_set sets (slo
 
 -- The slots of node n that are read or set, of the attributes among these features.
 abbrev pub slots_among : Metamodel → List SlotRead → List SetItem → ℕ → List ℕ → List PatternSlot
-slots_among m reads sets n features = map (slot_at sets n) (filter (is_used reads sets n) (filter (λ f. is_some (type_of m f)) features))
+slots_among m reads sets n features =
+    map (slot_at sets n)
+    (filter (is_used reads sets n) (filter (λ f. is_some (type_of m f)) features))
 
 -- The slots of a left node that are read or set, in the order of its class.
-abbrev pub slots_at_node : Metamodel → List SlotRead → List SetItem → ℕ → PatternNode → List PatternSlot
-slots_at_node m reads sets n node = if is_left node.mark then slots_among m reads sets n (features_of m node.class) else []
+abbrev pub slots_at_node : Metamodel → List SlotRead → List SetItem → ℕ → PatternNode
+    → List PatternSlot
+slots_at_node m reads sets n node =
+    if is_left node.mark then slots_among m reads sets n (features_of m node.class) else []
 
 -- The slots of the node at this place, which is its number.
-abbrev pub slots_at_place : Metamodel → List SlotRead → List SetItem → ℕ → PatternNode → List PatternSlot
-slots_at_place m reads sets place node = option_map_or (λ n. slots_at_node m reads sets n node) (as_number place) []
+abbrev pub slots_at_place : Metamodel → List SlotRead → List SetItem → ℕ → PatternNode
+    → List PatternSlot
+slots_at_place m reads sets place node =
+    option_map_or (λ n. slots_at_node m reads sets n node) (as_number place) []
 
 -- The slots of these nodes, node by node; the first node has this place.
-abbrev pub slots_from : Metamodel → List SlotRead → List SetItem → ℕ → List PatternNode → List PatternSlot
+abbrev pub slots_from : Metamodel → List SlotRead → List SetItem → ℕ → List PatternNode
+    → List PatternSlot
 slots_from m reads sets first nodes = each_from (slots_at_place m reads sets) first nodes

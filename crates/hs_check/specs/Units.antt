@@ -35,7 +35,10 @@ use Rattle.hs_check.specs.Parameters.{params_meant}
 
 -- The names that calls may have, in written order.
 abbrev pub callees : List Definition → Callees
-callees definitions = record { rules = map (λ rule. rule.name.text) (rules_of definitions); units = map (λ unit. unit.name.text) (units_of definitions) }
+callees definitions = record {
+  rules = map (λ rule. rule.name.text) (rules_of definitions);
+  units = map (λ unit. unit.name.text) (units_of definitions);
+}
 
 -- The number of this name among these.
 abbrev pub place_among : List (List ℕ) → List ℕ → Option ℕ
@@ -43,7 +46,9 @@ place_among names name = option_and_then as_number (position (same_text name) na
 
 -- The rule of this name, or else the unit.
 abbrev pub callee_meant : Callees → List ℕ → Callee
-callee_meant known name = option_map_or callee.Rule (place_among known.rules name) (callee.Unit (unwrap_or (place_among known.units name) 0))
+callee_meant known name =
+    option_map_or callee.Rule (place_among known.rules name)
+    (callee.Unit (unwrap_or (place_among known.units name) 0))
 
 abbrev pub with_sign : Bool → ℤ → ℤ
 with_sign minus n = if minus then neg_ℤ n else n
@@ -60,7 +65,10 @@ bind_meant (written_bind.Give parameter given) = bind.Give parameter.text (atom_
 bind_meant (written_bind.Take parameter variable) = bind.Take parameter.text variable.text
 
 abbrev pub call_meant : Callees → WrittenCall → Call
-call_meant known call = record { callee = callee_meant known call.callee.text; binds = map bind_meant call.binds }
+call_meant known call = record {
+  callee = callee_meant known call.callee.text;
+  binds = map bind_meant call.binds;
+}
 
 abbrev pub count_meant : WrittenCount → Count
 count_meant (written_count.Int n span) = count.Literal n
@@ -71,12 +79,19 @@ abbrev pub body_meant : Callees → WrittenBody → Body
 body_meant known (written_body.Sequential calls) = body.Sequential (map (call_meant known) calls)
 body_meant known (written_body.Independent calls) = body.Independent (map (call_meant known) calls)
 body_meant known (written_body.Priority calls) = body.Priority (map (call_meant known) calls)
-body_meant known (written_body.Conditional test next otherwise) = body.Conditional (call_meant known test) (call_meant known next) (option_map (call_meant known) otherwise)
+body_meant known (written_body.Conditional test next otherwise) =
+    body.Conditional (call_meant known test) (call_meant known next)
+    (option_map (call_meant known) otherwise)
 body_meant known (written_body.Loop call) = body.Loop (call_meant known call)
-body_meant known (written_body.Iterated times call) = body.Iterated (count_meant times) (call_meant known call)
+body_meant known (written_body.Iterated times call) =
+    body.Iterated (count_meant times) (call_meant known call)
 
 abbrev pub unit_meant : Metamodel → Callees → WrittenUnit → UnitMeant
-unit_meant m known unit = record { name = unit.name.text; params = params_meant m unit.params; body = body_meant known unit.body }
+unit_meant m known unit = record {
+  name = unit.name.text;
+  params = params_meant m unit.params;
+  body = body_meant known unit.body;
+}
 
 -- The units of a text, in written order.
 abbrev pub units_meant : Metamodel → List Definition → List UnitMeant

@@ -13,7 +13,7 @@ use hs_faults::{BlockId, RuleScope};
 use hs_types::{Meta, Multi, Part, PatternEdge, PatternNode, SetItem, Shape};
 use std::alloc::{AllocError, Global};
 
-/// What the kernel or a multi block comes to, but for its slots.
+/// What the kernel or a multi block denotes, but for its slots.
 #[derive(Debug, Drop)]
 pub struct Block {
     pub nodes: List<PatternNode>,
@@ -60,7 +60,8 @@ fn block_with(
     nodes: List<PatternNode>,
     part: BlockId,
 ) -> Result<Block, AllocError>
-    ensures { IfOk result (λ block. block ≡ spec.block_with meta.now contents.now before.now nodes part) }
+    ensures { IfOk result
+        (λ block. block ≡ spec.block_with meta.now contents.now before.now nodes part) }
 {
     let statements = contents.statements.as_slice();
     let open = VisibleNodes::new(before, nodes.as_slice());

@@ -19,9 +19,9 @@ use hs_types::{Meta, RuleSet};
 use std::alloc::{AllocError, Global};
 use std::sync::Arc;
 
-/// The rules and the units that a text means over the metamodel, which the set shares; or the text's
-/// first fault: all rules come before all units, and of each the parts stand in written order. The
-/// limits of rules and units are among the faults. The set is well formed, as its type says, so
+/// The rules and the units that a text means over the metamodel, which the set shares; or the
+/// text's first fault: all rules come before all units, and of each the parts are in written order.
+/// The limits of rules and units are among the faults. The set is well formed, as its type says, so
 /// nothing has to test it again. Each condition and each set of the text is in the set, and the
 /// classes, nodes, references and attributes that parameters, declarations, edges and sets name are
 /// found, and the rules and units that calls name.
@@ -30,7 +30,8 @@ pub fn check(
     meta: &Arc<Meta>,
     syntax: &Syntax,
 ) -> Result<RuleSet, Failure<RuleFault>>
-    ensures set { GivesWhere (IsMeant (arc_value meta.now) syntax.now.definitions) result (verdict (faults_of (arc_value meta.now) syntax.now.definitions)) }
+    ensures set { GivesWhere (IsMeant (arc_value meta.now) syntax.now.definitions) result
+        (verdict (faults_of (arc_value meta.now) syntax.now.definitions)) }
     ensures meta { IfOk result (λ set. meta_of set ≡ arc_value meta.now) }
     ensures whole { IfOk result (λ set. KeepAll syntax.now.definitions set.rules) }
     ensures found { IfOk result (λ set. Resolve (arc_value meta.now) syntax.now.definitions) }

@@ -1,3 +1,5 @@
+//! What a rule declares and states.
+
 ghost use Rattle.std.specs.Prelude.{◌≡◌, IfOk};
 ghost use Rattle.hs_faults.specs.Statements.{statements};
 
@@ -8,8 +10,8 @@ use hs_text::Rule;
 use std::alloc::{AllocError, Global};
 use std::marker::Model;
 
-/// What a rule declares and says: its parameters for data, the nodes of the kernel and of all blocks,
-/// and the statements about them.
+/// What a rule declares and says: its parameters for data, the nodes of the kernel and of all
+/// blocks, and the statements about them.
 #[derive(Drop)]
 pub struct RuleContents<'a> {
     pub params: DataIndex<'a>,
@@ -22,7 +24,11 @@ impl<'a> Model for RuleContents<'a> {
 
     ghost Value = { spec.RuleContents };
 
-    ghost view = { λ contents. record { params = contents.params; nodes = contents.nodes; statements = contents.statements } };
+    ghost view = { λ contents. record {
+      params = contents.params;
+      nodes = contents.nodes;
+      statements = contents.statements;
+    } };
 }
 
 /// What the rule declares and says, given what it declares.
@@ -32,7 +38,11 @@ pub fn rule_contents<'a>(
     params: &'a [DataParam],
     nodes: &'a [DeclaredNode],
 ) -> Result<RuleContents<'a>, AllocError>
-    ensures { IfOk result (λ contents. contents ≡ record { params = params.now; nodes = nodes.now; statements = statements rule.now.items }) }
+    ensures { IfOk result (λ contents. contents ≡ record {
+      params = params.now;
+      nodes = nodes.now;
+      statements = statements rule.now.items;
+    }) }
 {
     Ok(RuleContents {
         params: NameIndex::of(alloc, params)?,

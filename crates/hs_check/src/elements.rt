@@ -144,7 +144,8 @@ fn add_edge(
     statement: &Statement<'_>,
     part: BlockId,
 ) -> Result<(), AllocError>
-    ensures { OnOk result (edges.new ≡ edges.old ++ spec.edges_of_part meta.now nodes.now (statement.now ∷ []) part) }
+    ensures { OnOk result
+        (edges.new ≡ edges.old ++ spec.edges_of_part meta.now nodes.now (statement.now ∷ []) part) }
 {
     if let Some(edge) = edge_in(meta, nodes, part, statement) {
         edges.push(edge)?;
@@ -160,7 +161,8 @@ pub fn edges_of_part(
     statements: &[Statement<'_>],
     part: BlockId,
 ) -> Result<List<PatternEdge>, AllocError>
-    ensures { IfOk result (λ edges. edges ≡ spec.edges_of_part meta.now nodes.now statements.now part) }
+    ensures { IfOk result
+        (λ edges. edges ≡ spec.edges_of_part meta.now nodes.now statements.now part) }
 {
     let mut edges = List::new(alloc);
     for statement in statements {

@@ -20,7 +20,8 @@ fn expr_meant(
     names: &RuleScope<'_, '_, '_>,
     expr: &NameExpr,
 ) -> Result<Option<Expr>, AllocError>
-    ensures { IfOk result (λ meant. meant ≡ spec.expr_meant (rule_scope names.now.meta.now names.now.params.now names.now.nodes.now names.now.block) expr.now) }
+    ensures { IfOk result (λ meant. meant ≡ spec.expr_meant (rule_scope names.now.meta.now
+        names.now.params.now names.now.nodes.now names.now.block) expr.now) }
 {
     match value_of(check(alloc, expr, names))? {
         Some(checked) => Ok(checked.expr),
@@ -35,7 +36,8 @@ fn where_in(
     part: BlockId,
     statement: &Statement<'_>,
 ) -> Result<Option<Expr>, AllocError>
-    ensures { IfOk result (λ test. test ≡ spec.where_in (rule_scope names.now.meta.now names.now.params.now names.now.nodes.now names.now.block) part statement.now) }
+    ensures { IfOk result (λ test. test ≡ spec.where_in (rule_scope names.now.meta.now
+        names.now.params.now names.now.nodes.now names.now.block) part statement.now) }
 {
     match statement.kind {
         StatementKind::Where { test, .. } if same_block(part, statement.block) => {
@@ -53,7 +55,8 @@ fn add_where(
     statement: &Statement<'_>,
     part: BlockId,
 ) -> Result<(), AllocError>
-    ensures { OnOk result (wheres.new ≡ wheres.old ++ spec.wheres_in (rule_scope names.now.meta.now names.now.params.now names.now.nodes.now names.now.block) (statement.now ∷ []) part) }
+    ensures { OnOk result (wheres.new ≡ wheres.old ++ spec.wheres_in (rule_scope names.now.meta.now
+        names.now.params.now names.now.nodes.now names.now.block) (statement.now ∷ []) part) }
 {
     if let Some(test) = where_in(alloc, names, part, statement)? {
         wheres.push(test)?;
@@ -68,7 +71,8 @@ pub fn wheres_in(
     statements: &[Statement<'_>],
     part: BlockId,
 ) -> Result<List<Expr>, AllocError>
-    ensures { IfOk result (λ wheres. wheres ≡ spec.wheres_in (rule_scope names.now.meta.now names.now.params.now names.now.nodes.now names.now.block) statements.now part) }
+    ensures { IfOk result (λ wheres. wheres ≡ spec.wheres_in (rule_scope names.now.meta.now
+        names.now.params.now names.now.nodes.now names.now.block) statements.now part) }
 {
     let mut wheres = List::new(alloc);
     for statement in statements {
@@ -102,7 +106,9 @@ fn set_in(
     part: BlockId,
     statement: &Statement<'_>,
 ) -> Result<Option<SetItem>, AllocError>
-    ensures { IfOk result (λ item. item ≡ spec.set_in names.now.meta.now (rule_scope names.now.meta.now names.now.params.now names.now.nodes.now names.now.block) nodes.now part statement.now) }
+    ensures { IfOk result
+        (λ item. item ≡ spec.set_in names.now.meta.now (rule_scope names.now.meta.now
+        names.now.params.now names.now.nodes.now names.now.block) nodes.now part statement.now) }
 {
     match statement.kind {
         StatementKind::Set {
@@ -132,7 +138,9 @@ fn add_set(
     statement: &Statement<'_>,
     part: BlockId,
 ) -> Result<(), AllocError>
-    ensures { OnOk result (sets.new ≡ sets.old ++ spec.sets_in names.now.meta.now (rule_scope names.now.meta.now names.now.params.now names.now.nodes.now names.now.block) nodes.now (statement.now ∷ []) part) }
+    ensures { OnOk result (sets.new ≡ sets.old ++ spec.sets_in names.now.meta.now
+        (rule_scope names.now.meta.now names.now.params.now names.now.nodes.now names.now.block)
+        nodes.now (statement.now ∷ []) part) }
 {
     if let Some(item) = set_in(alloc, names, nodes, part, statement)? {
         sets.push(item)?;
@@ -148,7 +156,9 @@ pub fn sets_in(
     statements: &[Statement<'_>],
     part: BlockId,
 ) -> Result<List<SetItem>, AllocError>
-    ensures { IfOk result (λ sets. sets ≡ spec.sets_in names.now.meta.now (rule_scope names.now.meta.now names.now.params.now names.now.nodes.now names.now.block) nodes.now statements.now part) }
+    ensures { IfOk result
+        (λ sets. sets ≡ spec.sets_in names.now.meta.now (rule_scope names.now.meta.now
+        names.now.params.now names.now.nodes.now names.now.block) nodes.now statements.now part) }
 {
     let mut sets = List::new(alloc);
     for statement in statements {

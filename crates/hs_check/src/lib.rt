@@ -1,8 +1,8 @@
 //! What a text of rules and units means.
 //!
-//! [`check`] gives the rules and the units of a text without faults, by numbers, or the text's first
-//! fault. A rule's nodes and statements are gone through once for each of its parts, which are few;
-//! names within a rule are looked for among its nodes, which are few too.
+//! [`check`] gives the rules and the units of a text without faults, by numbers, or the text's
+//! first fault. A rule's nodes and statements are gone through once for each of its parts, which
+//! are few; names within a rule are looked for among its nodes, which are few too.
 #![tactic(auto)]
 
 mod block;

@@ -61,7 +61,8 @@ fn parts_meant(
     kernel: &[PatternNode],
     homes: &[BlockId],
 ) -> Result<List<Part>, AllocError>
-    ensures { IfOk result (λ parts. parts ≡ map (spec.part_meant meta.now contents.now kernel.now) homes.now) }
+    ensures { IfOk result
+        (λ parts. parts ≡ map (spec.part_meant meta.now contents.now kernel.now) homes.now) }
 {
     let mut parts = List::new(alloc);
     for home in homes {
@@ -77,7 +78,8 @@ fn multis_at(
     kernel: &[PatternNode],
     homes: &[BlockId],
 ) -> Result<List<Multi>, AllocError>
-    ensures { IfOk result (λ multis. multis ≡ map (spec.multi_meant meta.now contents.now kernel.now) homes.now) }
+    ensures { IfOk result
+        (λ multis. multis ≡ map (spec.multi_meant meta.now contents.now kernel.now) homes.now) }
 {
     let mut multis = List::new(alloc);
     for home in homes {
@@ -93,14 +95,17 @@ fn multis_meant(
     contents: &RuleContents<'_>,
     kernel: &[PatternNode],
 ) -> Result<List<Multi>, AllocError>
-    ensures { IfOk result (λ multis. multis ≡ map (spec.multi_meant meta.now contents.now kernel.now) (each spec.multi_at rule.now.items)) }
+    ensures { IfOk result
+        (λ multis. multis ≡ map (spec.multi_meant meta.now contents.now kernel.now)
+        (each spec.multi_at rule.now.items)) }
 {
     let homes = multis(alloc, rule.items.as_slice())?;
     multis_at(alloc, meta, contents, kernel, homes.as_slice())
 }
 
 fn add_reads_of_multis(reads: &mut List<SlotRead>, multis: &[Multi]) -> Result<(), AllocError>
-    ensures { OnOk result (reads.new ≡ reads.old ++ flat_map (λ multi. reads_in multi.wheres multi.sets) multis.now) }
+    ensures { OnOk result
+        (reads.new ≡ reads.old ++ flat_map (λ multi. reads_in multi.wheres multi.sets) multis.now) }
 {
     for multi in multis {
         add_reads_in(reads, multi.wheres.as_slice(), multi.sets.as_slice())?;
@@ -125,7 +130,9 @@ fn kernel_slots(
     kernel: &Block,
     multis: &[Multi],
 ) -> Result<List<PatternSlot>, AllocError>
-    ensures { IfOk result (λ slots. slots ≡ slots_from meta.now (spec.reads_with kernel.now multis.now) kernel.now.sets 0 kernel.now.nodes) }
+    ensures { IfOk result
+        (λ slots. slots ≡ slots_from meta.now (spec.reads_with kernel.now multis.now)
+        kernel.now.sets 0 kernel.now.nodes) }
 {
     let reads = reads_with(alloc, kernel, multis)?;
     slots_from(
@@ -145,7 +152,9 @@ fn forbids_meant(
     contents: &RuleContents<'_>,
     kernel: &[PatternNode],
 ) -> Result<List<Part>, AllocError>
-    ensures { IfOk result (λ parts. parts ≡ map (spec.part_meant meta.now contents.now kernel.now) (each spec.forbid_at rule.now.items)) }
+    ensures { IfOk result
+        (λ parts. parts ≡ map (spec.part_meant meta.now contents.now kernel.now)
+        (each spec.forbid_at rule.now.items)) }
 {
     let homes = forbids(alloc, rule.items.as_slice())?;
     parts_meant(alloc, meta, contents, kernel, homes.as_slice())
@@ -158,7 +167,9 @@ fn needs_meant(
     contents: &RuleContents<'_>,
     kernel: &[PatternNode],
 ) -> Result<List<Part>, AllocError>
-    ensures { IfOk result (λ parts. parts ≡ map (spec.part_meant meta.now contents.now kernel.now) (each spec.require_at rule.now.items)) }
+    ensures { IfOk result
+        (λ parts. parts ≡ map (spec.part_meant meta.now contents.now kernel.now)
+        (each spec.require_at rule.now.items)) }
 {
     let homes = requires_of(alloc, rule.items.as_slice())?;
     parts_meant(alloc, meta, contents, kernel, homes.as_slice())
@@ -173,7 +184,8 @@ fn rule_with(
     kernel: Block,
     multis: List<Multi>,
 ) -> Result<Rule, AllocError>
-    ensures { IfOk result (λ meant. meant ≡ spec.rule_with meta.now rule.now contents.now kernel multis) }
+    ensures { IfOk result
+        (λ meant. meant ≡ spec.rule_with meta.now rule.now contents.now kernel multis) }
 {
     let slots = kernel_slots(alloc, meta, &kernel, multis.as_slice())?;
     let forbids = forbids_meant(alloc, meta, rule, contents, kernel.nodes.as_slice())?;
@@ -237,7 +249,8 @@ fn add_rule(
     rules: &mut List<Rule>,
     definition: &Definition,
 ) -> Result<(), AllocError>
-    ensures { OnOk result (rules.new ≡ rules.old ++ map (spec.rule_meant meta.now) (as_rule definition.now)) }
+    ensures { OnOk result
+        (rules.new ≡ rules.old ++ map (spec.rule_meant meta.now) (as_rule definition.now)) }
 {
     match definition {
         Definition::Rule(rule) => {

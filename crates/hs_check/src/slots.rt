@@ -74,7 +74,8 @@ fn is_set(sets: &[SetItem], node: u16, attribute: FeatureNo) -> bool
         .any(|item| item.node == node && item.attribute == attribute)
 }
 
-/// Adds the slot of the feature at the node of this number, if it is an attribute that is read or set.
+/// Adds the slot of the feature at the node of this number, if it is an attribute that is read or
+/// set.
 fn add_slot(
     slots: &mut List<PatternSlot>,
     meta: &Meta,
@@ -83,7 +84,8 @@ fn add_slot(
     node: u16,
     feature: FeatureNo,
 ) -> Result<(), AllocError>
-    ensures { OnOk result (slots.new ≡ slots.old ++ spec.slots_among meta.now reads.now sets.now node (feature ∷ [])) }
+    ensures { OnOk result (slots.new
+        ≡ slots.old ++ spec.slots_among meta.now reads.now sets.now node (feature ∷ [])) }
 {
     if meta.type_of(feature).is_none() {
         return Ok(());
@@ -108,7 +110,8 @@ fn add_slots_among(
     node: u16,
     features: &[FeatureNo],
 ) -> Result<(), AllocError>
-    ensures { OnOk result (slots.new ≡ slots.old ++ spec.slots_among meta.now reads.now sets.now node features.now) }
+    ensures { OnOk result
+        (slots.new ≡ slots.old ++ spec.slots_among meta.now reads.now sets.now node features.now) }
 {
     for feature in features {
         add_slot(slots, meta, reads, sets, node, *feature)?;
@@ -131,7 +134,8 @@ fn add_slots_of(
     place: usize,
     node: &PatternNode,
 ) -> Result<(), AllocError>
-    ensures { OnOk result (slots.new ≡ slots.old ++ spec.slots_at_place meta.now reads.now sets.now place node.now) }
+    ensures { OnOk result
+        (slots.new ≡ slots.old ++ spec.slots_at_place meta.now reads.now sets.now place node.now) }
 {
     match u16::try_from(place) {
         Ok(number) if is_left(node.mark) => {
@@ -157,7 +161,8 @@ pub fn slots_from(
     before: &[PatternNode],
     nodes: &[PatternNode],
 ) -> Result<List<PatternSlot>, AllocError>
-    ensures { IfOk result (λ slots. slots ≡ spec.slots_from meta.now reads.now sets.now (length before.now) nodes.now) }
+    ensures { IfOk result (λ slots. slots
+        ≡ spec.slots_from meta.now reads.now sets.now (length before.now) nodes.now) }
 {
     let mut slots = List::new(alloc);
     for (i, node) in nodes.iter().enumerate() {

@@ -230,7 +230,8 @@ fn add_unit(
     definition: &Definition,
 ) -> Result<(), AllocError>
     requires fine { IsDefinitionFine definition.now }
-    ensures { OnOk result (units.new ≡ units.old ++ map (spec.unit_meant meta.now known.now) (as_unit definition.now)) }
+    ensures { OnOk result (units.new
+        ≡ units.old ++ map (spec.unit_meant meta.now known.now) (as_unit definition.now)) }
 {
     match definition {
         Definition::Unit(unit) => {
@@ -248,7 +249,8 @@ fn units_among(
     definitions: &[Definition],
 ) -> Result<List<Unit>, AllocError>
     requires fine { All IsDefinitionFine definitions.now }
-    ensures { IfOk result (λ units. units ≡ map (spec.unit_meant meta.now known.now) (units_of definitions.now)) }
+    ensures { IfOk result
+        (λ units. units ≡ map (spec.unit_meant meta.now known.now) (units_of definitions.now)) }
 {
     let mut units = List::new(alloc);
     for definition in definitions {

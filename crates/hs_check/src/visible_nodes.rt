@@ -1,3 +1,5 @@
+//! The nodes that a block may name, by number and by name.
+
 ghost use Rattle.std.specs.Prelude.{◌≡◌, ◌++◌, slice_get, option_copied};
 ghost use Rattle.std.specs.List.{position};
 ghost use Rattle.hs_expr.specs.Lists.{same_text};

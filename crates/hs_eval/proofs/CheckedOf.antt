@@ -13,22 +13,22 @@ use Rattle.hs_eval.specs.Results.{checked_of, ok_map}
 abbrev well : Checked → Result Checked ExprFault
 well x = Ok x
 
-same-told : (x y : Checked) → well x ≡ well y → x ≡ y
-same-told x y e = cc
+same-checked : (x y : Checked) → well x ≡ well y → x ≡ y
+same-checked x y e = cc
 
 same-expr : (x y : Expr) → Some x ≡ Some y → x ≡ y
 same-expr x y e = cc
 
 abbrev IsOf : Outcome → Checked → Expr → Type 0
-IsOf c told e = (c ≡ Ok (e, told.kind)) × (nesting e ≤ MAX_NESTING)
+IsOf c reported e = (c ≡ Ok (e, reported.kind)) × (nesting e ≤ MAX_NESTING)
 
-pub kept-checked : (c : Outcome) (told : Checked) (e : Expr) → ok_map checked_of c ≡ Ok told → told.expr ≡ Some e → IsOf c told e
-kept-checked (Err fault) told e h is = cc
-kept-checked (Ok x) told e h is = go (nat_le (nesting x.0) MAX_NESTING) refl (ap (λ (c : Checked). c.expr) same ∙ is) where
-  same : checked_of x ≡ told
-  same = same-told (checked_of x) told h
+pub kept-checked : (c : Outcome) (reported : Checked) (e : Expr) → ok_map checked_of c ≡ Ok reported → reported.expr ≡ Some e → IsOf c reported e
+kept-checked (Err fault) reported e h is = cc
+kept-checked (Ok x) reported e h is = go (nat_le (nesting x.0) MAX_NESTING) refl (ap (λ (c : Checked). c.expr) same ∙ is) where
+  same : checked_of x ≡ reported
+  same = same-checked (checked_of x) reported h
 
-  go : (b : Bool) → nat_le (nesting x.0) MAX_NESTING ≡ b → (checked_of x).expr ≡ Some e → IsOf (Ok x) told e
+  go : (b : Bool) → nat_le (nesting x.0) MAX_NESTING ≡ b → (checked_of x).expr ≡ Some e → IsOf (Ok x) reported e
   go true t k =
       let it : x.0 ≡ e = same-expr x.0 e (sym (ap (λ (b : Bool). if b then Some x.0 else None) t) ∙ k) in
       (ap₂ (λ (a : Expr) (k : Kind). Ok (a, k)) it (ap (λ (c : Checked). c.kind) same), subst (λ (a : Expr). nesting a ≤ MAX_NESTING) it (leb-true (nesting x.0) MAX_NESTING t))

@@ -187,8 +187,8 @@ pub failure-reported : (names : Names) (ps qs : List Piece) (tree : Tree) (why :
 failure-reported names ps qs tree failure.NoMemory same is h = tt
 failure-reported names ps qs tree (failure.Fault f) same is h = go (check_tree names tree) (run-tree names ps tree is) where
   go : (c : Outcome) → stack_after_all names ps [] ≡ push [] (ok_map operand_of c) → ok_map checked_of c ≡ Err f
-  go (Ok x) e = let told = same-pieces names ps qs same ∙ h in cc
-  go (Err g) e = let told = same-pieces names ps qs same ∙ h in cc
+  go (Ok x) e = let reported = same-pieces names ps qs same ∙ h in cc
+  go (Err g) e = let reported = same-pieces names ps qs same ∙ h in cc
 
 -- what is kept of what lies on top at the end is what is kept of what the expression is checked to be
 end-result : (names : Names) (ps : List Piece) (tree : Tree) (a : Operand) (rest : List Operand) → tree_of ps ≡ Some tree →

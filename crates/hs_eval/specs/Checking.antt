@@ -17,7 +17,9 @@ use Rattle.hs_expr.specs.Evaluation.{binary_kind, not_kind, minus_kind}
 use Rattle.hs_expr.specs.Steps.{◌>>=◌, demand, needed}
 use Rattle.hs_expr.specs.Trees.{Tree, Leaf, Not, Minus, Binary}
 
--- What names stand for in expressions: a data parameter's number and kind; a node's number, and whether it is on the left side; and, by the name of its node and its own, an attribute's number and kind.
+-- What names denote in expressions: a data parameter's number and kind; a node's number, and
+-- whether it is on the left side; and, by the name of its node and its own, an attribute's number
+-- and kind.
 pub record Names : Type 0 where
   pub param : List ℕ → Option (ℕ × Kind)
   pub node : List ℕ → Option (ℕ × Bool)
@@ -37,7 +39,8 @@ param_read names name = do
   p ← needed (names.param name.text) (wrong_at name.span UnknownName)
   Ok (expr.Param p.0, p.1)
 
--- The slot that is read: its node is one that is known, and is on the left side; its attribute is one of the node's.
+-- The slot that is read: its node is one that is known, and is on the left side; its attribute is
+-- one of the node's.
 abbrev pub slot_read : Names → Name → Name → Outcome
 slot_read names owner name = do
   n ← needed (names.node owner.text) (wrong_at owner.span UnknownNode)
@@ -72,7 +75,8 @@ junction sign span a b = do
   k ← needed (binary_kind sign a.1 b.1) (wrong_at span BadKind)
   Ok (expr.Binary sign a.0 b.0, k)
 
--- What the expression is checked to be: the operands first, from the left, then the sign or the word itself.
+-- What the expression is checked to be: the operands first, from the left, then the sign or the
+-- word itself.
 abbrev pub check_tree : Names → Tree → Outcome
 check_tree names (Leaf p) = leaf names p
 check_tree names (Not span a) = do

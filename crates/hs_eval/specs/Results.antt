@@ -13,4 +13,7 @@ ok_map see (Err fault) = Err fault
 
 -- The kind, and the expression itself where it nests at most MAX_NESTING deep.
 abbrev pub checked_of : Expr × Kind → Checked
-checked_of x = record { kind = x.1; expr = if nat_le (nesting x.0) MAX_NESTING then Some x.0 else None }
+checked_of x = record {
+  kind = x.1;
+  expr = if nat_le (nesting x.0) MAX_NESTING then Some x.0 else None;
+}

@@ -1,4 +1,5 @@
--- Checking piece by piece, over a stack of checked operands, the last first. It gives what `check_tree` gives for the tree.
+-- Checking piece by piece, over a stack of checked operands, the last first. It gives what
+-- `check_tree` gives for the tree.
 use Rattle.std.specs.Prelude.{ℕ, ◌+◌, max, List, [], ◌∷◌, if◌then◌else◌, Option, Some, None, option_map, Result, Ok, Err, nat_le}
 use Rattle.hs_eval.specs.declared.checked.Checked.{Checked}
 use Rattle.hs_eval.specs.declared.fault.ExprFault.{ExprFault}
@@ -20,7 +21,8 @@ use Rattle.hs_expr.specs.Steps.{◌>>=◌, needed}
 
 -- The expression with how deep it nests, where that is at most MAX_NESTING.
 abbrev pub shallow_of : ℕ → Expr → Option Shallow
-shallow_of depth e = if nat_le depth MAX_NESTING then Some (record { expr = e; depth = depth }) else None
+shallow_of depth e =
+    if nat_le depth MAX_NESTING then Some (record { expr = e; depth = depth }) else None
 
 -- One operator more, on one operand and on two.
 abbrev pub unary_shallow : (Expr → Expr) → Option Shallow → Option Shallow
@@ -68,7 +70,8 @@ abbrev pub push : List Operand → Result Operand ExprFault → Pile
 push done (Ok x) = Ok (x ∷ done)
 push done (Err fault) = Err fault
 
--- The operand on top, and those below it. An operator that finds none there misses an operand of its kind.
+-- The operand on top, and those below it. An operator that finds none there misses an operand of
+-- its kind.
 abbrev pub pop : Span → List Operand → Result (Operand × List Operand) ExprFault
 pop span [] = Err (wrong_at span BadKind)
 pop span (a ∷ done) = Ok (a, done)

@@ -1,3 +1,5 @@
+//! Checked expressions.
+
 use hs_expr::{Expr, Kind};
 
 /// What an expression by names is checked to be.

@@ -1,3 +1,5 @@
+//! Checking an expression by names, piece by piece.
+
 ghost use Rattle.std.specs.Prelude.{[]};
 ghost use Rattle.hs_expr.specs.Steps.{Gives, GivesBy, Leaves};
 ghost use Rattle.hs_expr.specs.NameExprs.{expr_tree};
@@ -70,7 +72,8 @@ pub fn check<C: Scope>(
     names: &NameExpr,
     scope: &C,
 ) -> Result<Checked, Failure<ExprFault>>
-    ensures { Gives result (ok_map checked_of (check_tree (C.names scope.now) (expr_tree names.now))) }
+    ensures { Gives result
+        (ok_map checked_of (check_tree (C.names scope.now) (expr_tree names.now))) }
 {
     match run(alloc, names.pieces.as_slice(), scope) {
         Ok(mut stack) => Ok(stack.pop().unwrap().into_checked()),

@@ -1,3 +1,5 @@
+//! The value of an expression.
+
 ghost use Rattle.std.specs.Prelude.{◌≡◌, ◌≤◌, option_map};
 ghost use Rattle.hs_expr.specs.declared.expr.TheConstants.{MAX_NESTING};
 ghost use Rattle.hs_expr.specs.Evaluation.{value_of, nesting, not_value, minus_value};
@@ -30,7 +32,7 @@ fn oppose(value: ValueRef<'_>) -> Option<ValueRef<'_>>
 /// doesn't take, which a checked expression leaves out, and where a sum, a difference, a product or
 /// a negation in it leaves 64 bits. Its text is lent by the expression or by `env`.
 ///
-/// It calls itself once for each level of the expression: at most 33 calls stand on the stack.
+/// It calls itself once for each level of the expression: at most 33 calls are on the stack.
 pub fn eval<'a, E: Env>(expr: &'a Expr, env: &'a E) -> Option<ValueRef<'a>>
     requires shallow { nesting expr.now ≤ MAX_NESTING }
     ensures { option_map referent result ≡ value_of (E.reads env.now) expr.now }

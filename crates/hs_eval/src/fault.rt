@@ -1,3 +1,5 @@
+//! Faults of expressions.
+
 ghost use Rattle.std.specs.Prelude.{◌≡◌};
 ghost use Rattle.hs_eval.specs.Checking.{wrong_at};
 

@@ -13,7 +13,8 @@ use hs_expr::Sign;
 
 /// The number as a value, where 64 bits hold it.
 pub fn int_value<'a>(number: Option<i64>) -> Option<ValueRef<'a>>
-    ensures { (n : ℤ) → SomeIff number (FitsSigned w64 n) n → option_map referent result ≡ spec.int_value n }
+    ensures { (n : ℤ) → SomeIff number (FitsSigned w64 n) n
+        → option_map referent result ≡ spec.int_value n }
 {
     match number {
         Some(number) => Some(ValueRef::Int(number)),
@@ -57,7 +58,8 @@ fn join_truths<'a>(sign: Sign, left: bool, right: bool) -> Option<ValueRef<'a>>
 }
 
 fn join_texts<'a>(sign: Sign, text: &str, other: &str) -> Option<ValueRef<'a>>
-    ensures { option_map referent result ≡ binary_value sign (value.Text text.now) (value.Text other.now) }
+    ensures { option_map referent result
+        ≡ binary_value sign (value.Text text.now) (value.Text other.now) }
 {
     match sign {
         Sign::Equal => bool_value(text == other),
@@ -68,7 +70,8 @@ fn join_texts<'a>(sign: Sign, text: &str, other: &str) -> Option<ValueRef<'a>>
 
 /// Values of two kinds differ, and no other sign takes them.
 fn join_unlike<'a>(sign: Sign) -> Option<ValueRef<'a>>
-    ensures { (left right : Value) → kind_of left ≢ kind_of right → option_map referent result ≡ binary_value sign left right }
+    ensures { (left right : Value) → kind_of left ≢ kind_of right
+        → option_map referent result ≡ binary_value sign left right }
 {
     match sign {
         Sign::Equal => bool_value(false),
@@ -79,7 +82,8 @@ fn join_unlike<'a>(sign: Sign) -> Option<ValueRef<'a>>
 
 /// What the sign makes of the two values.
 pub fn join<'a>(sign: Sign, left: ValueRef<'a>, right: ValueRef<'a>) -> Option<ValueRef<'a>>
-    ensures { option_map referent result ≡ binary_value sign (referent left.entry) (referent right.entry) }
+    ensures { option_map referent result
+        ≡ binary_value sign (referent left.entry) (referent right.entry) }
 {
     match (left, right) {
         (ValueRef::Int(left), ValueRef::Int(right)) => join_numbers(sign, left, right),

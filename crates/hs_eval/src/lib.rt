@@ -4,7 +4,7 @@
 //! [`ValueRef`], whose text is lent. [`eval`] takes no memory.
 //!
 //! [`check`] gives the kind of an expression by names, over a [`Scope`] that says what the names
-//! stand for, and the expression by numbers where it nests at most 32 deep, or reports its first
+//! denote, and the expression by numbers where it nests at most 32 deep, or reports its first
 //! fault.
 #![tactic(auto)]
 

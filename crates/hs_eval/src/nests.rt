@@ -1,9 +1,11 @@
+//! How deep an expression nests.
+
 ghost use Rattle.std.specs.Prelude.{◌≤◌, ◌↔◌, IsTrue};
 ghost use Rattle.hs_expr.specs.Evaluation.{nesting};
 
 use hs_expr::Expr;
 
-/// Whether at most `most` operators stand on each path down the expression. It calls itself at most
+/// Whether at most `most` operators are on each path down the expression. It calls itself at most
 /// that deep, however deep the expression is.
 pub fn nests_within(expr: &Expr, most: u32) -> bool
     ensures { IsTrue result ↔ nesting expr.now ≤ most }

@@ -1,3 +1,5 @@
+//! Operands on the stack of the check.
+
 ghost use Rattle.std.specs.Prelude.{◌≡◌};
 ghost use Rattle.hs_eval.specs.Stacks.{leaf_operand, checked_operand};
 

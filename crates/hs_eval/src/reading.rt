@@ -1,3 +1,5 @@
+//! What an expression reads.
+
 ghost use Rattle.std.specs.Prelude.{◌≡◌, option_copied};
 ghost use Rattle.hs_expr.specs.Evaluation as evaluation;
 

@@ -1,13 +1,15 @@
+//! What names denote.
+
 ghost use Rattle.std.specs.Prelude.{◌≡◌};
 ghost use Rattle.hs_eval.specs.Checking as checking;
 
 use hs_expr::Kind;
 
-/// What the names of an expression stand for.
+/// What the names of an expression denote.
 pub trait Scope {
     ghost use Rattle.hs_eval.specs.Checking as checking;
 
-    /// What each name stands for.
+    /// What each name denotes.
     ghost names: { Self → checking.Names };
 
     /// The number and the kind of the data parameter of this name.

@@ -1,3 +1,5 @@
+//! Values whose texts are lent.
+
 ghost use Rattle.std.specs.Prelude.{◌≡◌};
 ghost use Rattle.hs_eval.specs.ValueRefs.{referent};
 

@@ -20,7 +20,7 @@ nothing_behind : {A : Type 0} (xs : List A) → xs ++ [] ≡ xs
 nothing_behind [] = refl
 nothing_behind (x ∷ xs) = ap (λ ys. x ∷ ys) (nothing_behind xs)
 
--- The rules up to definition i, and behind it.
+-- The rules up to definition i, and after it.
 pub rules_more : (definitions : List Definition) (i : ℕ) (d : Definition) → i < length definitions → get_or definitions i d ≡ d →
     flat_map as_rule (take (i + 1) definitions) ≡ flat_map as_rule (take i definitions) ++ as_rule d
 rules_more definitions i d h is =
@@ -41,11 +41,11 @@ pub definition_fails : (m : Metamodel) (before : List Rule) (definitions : List 
     i < length definitions → get_or definitions i d ≡ d → verdict (rule_faults_after m before (drop i definitions)) ≡ whole →
     Fails failure (verdict (faults_of_definition m before d)) → Fails failure whole
 definition_fails m before definitions i d failure whole h is rest e =
-    subst (λ told. Fails failure told)
+    subst (λ reported. Fails failure reported)
     (ap (λ ds. verdict (rule_faults_after m before ds)) (sym (drop_more definitions i d h ∙ ap (λ y. y ∷ drop (i + 1) definitions) is)) ∙ rest)
     (fails_in_front failure (faults_of_definition m before d) (rule_faults_after m (before ++ as_rule d) (drop (i + 1) definitions)) e)
 
--- The units up to definition i, and behind it.
+-- The units up to definition i, and after it.
 pub units_more : (definitions : List Definition) (i : ℕ) (d : Definition) → i < length definitions → get_or definitions i d ≡ d →
     flat_map as_unit (take (i + 1) definitions) ≡ flat_map as_unit (take i definitions) ++ as_unit d
 units_more definitions i d h is =

@@ -1,4 +1,4 @@
--- Failures of checks that stand one behind the other.
+-- Failures of checks that are in order.
 use Rattle.std.proofs.Common.{ℕ, ◌+◌, ◌<◌, ◌≡◌, List, ◌++◌, drop, get_or, length, IsErrAnd, Result, Ok, Err, ap, subst, sym, ◌∙◌}
 use Rattle.hs_expr.specs.declared.failure.Failure.{Failure}
 use Rattle.hs_expr.specs.declared.failure.Failure.TheVariants.{Fault, NoMemory}
@@ -25,19 +25,19 @@ pub ruleset fails = (fails_in_front, fails_behind, given_behind)
 pub fails_here : {X F : Type 0} (finds : ℕ → X → List F) (xs : List X) (i : ℕ) (x : X) (failure : Failure F) (whole : Result (Unit {0}) F) →
     i < length xs → get_or xs i x ≡ x → verdict (each_from finds i (drop i xs)) ≡ whole → Fails failure (verdict (finds i x)) → Fails failure whole
 fails_here finds xs i x failure whole h is rest e =
-    subst (λ told. Fails failure told) (ap verdict (sym (each_from-drop finds xs i x h)) ∙ rest)
+    subst (λ reported. Fails failure reported) (ap verdict (sym (each_from-drop finds xs i x h)) ∙ rest)
     (subst (λ y. Fails failure (verdict (finds i y ++ each_from finds (i + 1) (drop (i + 1) xs)))) (sym is) (fails_in_front failure (finds i x) (each_from finds (i + 1) (drop (i + 1) xs)) e))
 
 -- What a `?` hands on is the failure itself.
-pub handed_on : {A F : Type 0} (Holds : A → Type 0) (result : Result A (Failure F)) (failure : Failure F) (told : Result (Unit {0}) F) →
-    IsErrAnd result (λ e. e ≡ failure) → Fails failure told → GivesWhere Holds result told
-handed_on Holds (Ok x) failure told is e = absurd is
-handed_on Holds (Err other) failure told is e = subst (λ f. Fails f told) (sym is) e
+pub handed_on : {A F : Type 0} (Holds : A → Type 0) (result : Result A (Failure F)) (failure : Failure F) (reported : Result (Unit {0}) F) →
+    IsErrAnd result (λ e. e ≡ failure) → Fails failure reported → GivesWhere Holds result reported
+handed_on Holds (Ok x) failure reported is e = absurd is
+handed_on Holds (Err other) failure reported is e = subst (λ f. Fails f reported) (sym is) e
 
-pub passed_on : {F : Type 0} (result : Result (Unit {0}) (Failure F)) (failure : Failure F) (told : Result (Unit {0}) F) →
-    IsErrAnd result (λ e. e ≡ failure) → Fails failure told → Gives result told
-passed_on (Ok x) failure told is e = absurd is
-passed_on (Err other) failure told is e = subst (λ f. Fails f told) (sym is) e
+pub passed_on : {F : Type 0} (result : Result (Unit {0}) (Failure F)) (failure : Failure F) (reported : Result (Unit {0}) F) →
+    IsErrAnd result (λ e. e ≡ failure) → Fails failure reported → Gives result reported
+passed_on (Ok x) failure reported is e = absurd is
+passed_on (Err other) failure reported is e = subst (λ f. Fails f reported) (sym is) e
 
 -- Behind item i without fault, the faults of the rest stay.
 pub goes_on : {X F : Type 0} (finds : ℕ → X → List F) (xs : List X) (i : ℕ) (x : X) (whole : Result (Unit {0}) F) →

@@ -48,7 +48,7 @@ known_more name_of items item at known next knows is new updates = λ name.
     is (knows name)
     ∙ sym (find-append (λ other. same_text name (name_of other).text) items (item ∷ []))
 
--- What was there, told from what wasn't.
+-- What was there, apart from what wasn't.
 pub new_is : (old new there : Bool) → old ≡ not new → old ≡ there → new ≡ not there
 new_is old true there e f = ap not (sym e ∙ f)
 new_is old false there e f = ap not (sym e ∙ f)
@@ -78,7 +78,7 @@ known_again name_of items item known knows there = λ name.
     only_then true item = refl
     only_then false item = refl
 
--- What is known behind an item is known of the items up to it.
+-- What is known after an item is known of the items up to it.
 pub known_next : {T S : Type 0} (name_of : T → Name) (items : List T) (i : ℕ) (item : T) (known : IndexMap (Bor (List ℕ)) (Bor T) S) →
     i < length items → get_or items i item ≡ item → Knows name_of known (take i items ++ item ∷ []) → Knows name_of known (take (i + 1) items)
 known_next name_of items i item known h is knows =

@@ -106,7 +106,7 @@ next_node nodes items rest n node at split low =
     let is = same_head node (get_or nodes n node) rest (drop (n + 1) nodes) (sym split ∙ at ∙ drop_more nodes n node low) in
     (take_more nodes n node low ∙ ap (λ y. take n nodes ++ y ∷ []) (sym is.0), is.1)
 
--- What is made of one more node stands after what was made.
+-- What is made of one more node is after what was made.
 pub made_more : (finds : ℕ → DeclaredNode → List DeclaredNode) (made whole new items rest : List DeclaredNode) (node : DeclaredNode) (n m : ℕ) → items ≡ node ∷ rest → m ≡ n + 1 →
     made ++ each_from finds n items ≡ whole → new ≡ made ++ finds n node → new ++ each_from finds m rest ≡ whole
 made_more finds made whole new items rest node n m split next so_far put =

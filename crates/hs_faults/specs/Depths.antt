@@ -9,5 +9,6 @@ use Rattle.hs_faults.specs.StatementFaults.{is_shallow, rule_scope}
 -- The statement's expression nests at most 32 deep.
 abbrev pub is_flat : Metamodel → List DataParam → List DeclaredNode → Statement → Bool
 is_flat m params nodes (Edge block mark source target reference) = true
-is_flat m params nodes (Set block node attribute value) = is_shallow (rule_scope m params nodes block) value
+is_flat m params nodes (Set block node attribute value) =
+    is_shallow (rule_scope m params nodes block) value
 is_flat m params nodes (Where block word test) = is_shallow (rule_scope m params nodes block) test

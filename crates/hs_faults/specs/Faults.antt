@@ -1,4 +1,5 @@
--- All faults of rules, in the order in which they are reported: rule by rule, and in each rule check by check.
+-- All faults of rules, in the order in which they are reported: rule by rule, and in each rule
+-- check by check.
 use Rattle.std.specs.Prelude.{List, [], ◌∷◌, ◌++◌, length, nat_le}
 use Rattle.hs_expr.specs.Verdict.{fault_if}
 use Rattle.hs_text.specs.declared.syntax.Definition.{Definition}
@@ -17,20 +18,22 @@ use Rattle.hs_faults.specs.ParamNodes.{param_node_faults}
 use Rattle.hs_faults.specs.Statements.{statements}
 use Rattle.hs_faults.specs.StatementFaults.{statement_faults}
 
--- All faults of what stands in a rule, check by check.
+-- All faults of the contents of a rule, check by check.
 abbrev pub faults_in_rule : Metamodel → Rule → List RuleFault
 faults_in_rule m rule =
     faults_of_params m rule.params
     ++ (faults_of_nodes m (declared_nodes rule.items)
     ++ (param_node_faults (declared_nodes rule.items) rule.params
-    ++ (statement_faults m (data_params rule.params) (declared_nodes rule.items) [] (statements rule.items)
+    ++ (statement_faults m (data_params rule.params) (declared_nodes rule.items) []
+    (statements rule.items)
     ++ size_faults m rule)))
 
 -- A rule after those before it: there are at most 64, and each has a name of its own.
 abbrev pub faults_of_rule : Metamodel → List Rule → Rule → List RuleFault
 faults_of_rule m before rule =
     fault_if (nat_le MAX_RULES (length before)) (fault_at rule.name.span kind.Limit)
-    ++ (fault_if (is_again (λ other. other.name) before rule.name) (fault_at rule.name.span kind.Twice)
+    ++ (fault_if (is_again (λ other. other.name) before rule.name)
+    (fault_at rule.name.span kind.Twice)
     ++ faults_in_rule m rule)
 
 abbrev pub faults_of_definition : Metamodel → List Rule → Definition → List RuleFault
@@ -45,7 +48,9 @@ as_rule (definition.Unit unit) = []
 -- The faults of the rules among these definitions, after the rules before.
 abbrev pub rule_faults_after : Metamodel → List Rule → List Definition → List RuleFault
 rule_faults_after m before [] = []
-rule_faults_after m before (definition ∷ definitions) = faults_of_definition m before definition ++ rule_faults_after m (before ++ as_rule definition) definitions
+rule_faults_after m before (definition ∷ definitions) =
+    faults_of_definition m before definition
+    ++ rule_faults_after m (before ++ as_rule definition) definitions
 
 -- The faults of all rules of a text.
 abbrev pub faults_of_rules : Metamodel → List Definition → List RuleFault

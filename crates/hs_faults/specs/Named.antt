@@ -13,4 +13,6 @@ first_named name_of items name = find (λ item. same_text name (name_of item).te
 
 -- The map has each name's first item.
 abbrev pub Knows : {T S : Type 0} → (T → Name) → IndexMap (Bor (List ℕ)) (Bor T) S → List T → Type 0
-Knows name_of known items = (name : List ℕ) → option_copied (get_by (λ k. bytes_eq name k.now) known) ≡ first_named name_of items name
+Knows name_of known items =
+    (name : List ℕ) → option_copied (get_by (λ k. bytes_eq name k.now) known)
+    ≡ first_named name_of items name

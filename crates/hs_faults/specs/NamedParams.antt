@@ -22,6 +22,7 @@ abbrev pub unit_params : Definition → List NamedParams
 unit_params (definition.Rule rule) = []
 unit_params (definition.Unit unit) = named_params unit.name unit.params ∷ []
 
--- Of all that calls may name: the rules, and then the units, so that a rule goes before a unit of its name.
+-- The names and parameters of all that calls may name: the rules, and then the units, so that a
+-- rule comes before a unit of its name.
 abbrev pub all_params : List Definition → List NamedParams
 all_params definitions = flat_map rule_params definitions ++ flat_map unit_params definitions

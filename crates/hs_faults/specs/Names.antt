@@ -11,15 +11,16 @@ use Rattle.hs_types.specs.Metamodel.{conforms}
 use Rattle.hs_faults.specs.declared.nodes.DeclaredNode.{DeclaredNode}
 use Rattle.hs_faults.specs.Named.{first_named}
 
--- Numbers of classes go up to 65,535: a class that stands further on has none.
+-- Numbers of classes go up to 65,535: a class after these has none.
 abbrev pub as_number : ℕ → Option ℕ
 as_number place = if nat_lt place 65536 then Some place else None
 
 -- The first class of this name, by its as_number.
 abbrev pub class_number : Metamodel → List ℕ → Option ℕ
-class_number m name = option_and_then as_number (position (λ class. same_text class.name name) m.classes)
+class_number m name =
+    option_and_then as_number (position (λ class. same_text class.name name) m.classes)
 
--- The kind of data that a parameter of this kind has; none where it stands for an object.
+-- The kind of data that a parameter of this kind has; none where it takes an object.
 abbrev pub data_named : List ℕ → Option Kind
 data_named name =
     if same_text name (codes "int") then Some kind.Int
@@ -33,7 +34,9 @@ is_concrete m c = option_map_or (λ class. not class.is_abstract) (class_at m c)
 
 -- Some concrete class conforms to this one.
 abbrev pub has_concrete : Metamodel → ℕ → Bool
-has_concrete m c = list_any (λ d. is_concrete m d && conforms (supers_of m) d c) (range_with_len 0 (length m.classes))
+has_concrete m c =
+    list_any (λ d. is_concrete m d && conforms (supers_of m) d c)
+    (range_with_len 0 (length m.classes))
 
 -- The feature has this name.
 abbrev pub is_named : Metamodel → List ℕ → ℕ → Bool

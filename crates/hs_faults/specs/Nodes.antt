@@ -17,7 +17,8 @@ use Rattle.hs_faults.specs.Numbers.{numbered}
 
 -- The node that an element declares, if it declares one.
 abbrev pub node_of_element : BlockId → Mark → Element → List DeclaredNode
-node_of_element block mark (element.Node name class) = record { name = name; class = class; mark = mark; block = block; number = 0 } ∷ []
+node_of_element block mark (element.Node name class) =
+    record { name = name; class = class; mark = mark; block = block; number = 0 } ∷ []
 node_of_element block mark (element.Edge source target reference) = []
 
 abbrev pub node_of_simple : BlockId → Simple → List DeclaredNode
@@ -25,7 +26,8 @@ node_of_simple block (simple.Marked mark element) = node_of_element block mark e
 node_of_simple block (simple.Set node attribute value) = []
 node_of_simple block (simple.Where word test) = []
 
--- The nodes of an item, which has this place. Those of a forbid or require block have no mark of their own, and are preserved.
+-- The nodes of an item, which has this place. Those of a forbid or require block have no mark of
+-- their own, and are preserved.
 abbrev pub nodes_of_item : ℕ → Item → List DeclaredNode
 nodes_of_item i (item.Simple simple) = node_of_simple Kernel simple
 nodes_of_item i (item.Forbid elements) = flat_map (node_of_element (Pattern i) Preserve) elements

@@ -49,7 +49,8 @@ with_number n node = record {
 }
 
 abbrev pub numbered : List DeclaredNode → List DeclaredNode
-numbered nodes = each (λ i node. with_number (number_of_node nodes (take i nodes) node) node ∷ []) nodes
+numbered nodes =
+    each (λ i node. with_number (number_of_node nodes (take i nodes) node) node ∷ []) nodes
 
 -- The map has the counts of these nodes, as far as they are numbers.
 abbrev pub HasCounts : {S : Type 0} → IndexMap BlockId ℕ S → List DeclaredNode → Type 0

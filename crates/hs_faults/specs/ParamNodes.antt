@@ -45,15 +45,18 @@ is_of_kind param node = same_text node.class.text param.kind.text
 -- A parameter for an object has the name of a node of its class.
 abbrev pub object_faults : List DeclaredNode → Param → List RuleFault
 object_faults nodes param =
-    fault_if (not (option_map_or (is_node_of param) (node_named nodes param.name.text) false)) (fault_at param.name.span kind.UnknownNode)
-    ++ fault_if (not (option_map_or (is_of_kind param) (node_named nodes param.name.text) true)) (fault_at param.name.span kind.ArgMismatch)
+    fault_if (not (option_map_or (is_node_of param) (node_named nodes param.name.text) false))
+    (fault_at param.name.span kind.UnknownNode)
+    ++ fault_if (not (option_map_or (is_of_kind param) (node_named nodes param.name.text) true))
+    (fault_at param.name.span kind.ArgMismatch)
 
 -- A parameter for data is given.
 abbrev pub data_faults : Param → List RuleFault
 data_faults param = fault_if (is_out param.direction) (fault_at param.name.span kind.ArgMismatch)
 
 abbrev pub fit_faults : List DeclaredNode → Param → List RuleFault
-fit_faults nodes param = if is_some (data_named param.kind.text) then data_faults param else object_faults nodes param
+fit_faults nodes param =
+    if is_some (data_named param.kind.text) then data_faults param else object_faults nodes param
 
 abbrev pub param_node_faults : List DeclaredNode → List Param → List RuleFault
 param_node_faults nodes params = each (λ i param. fit_faults nodes param) params

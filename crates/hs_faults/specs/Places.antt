@@ -10,4 +10,9 @@ fault_at span kind = record { within = Rule; line = span.line; column = span.col
 
 -- This is wrong in a unit, at this place.
 abbrev pub unit_fault_at : Span → RuleFaultKind → RuleFault
-unit_fault_at span kind = record { within = Unit; line = span.line; column = span.column; kind = kind }
+unit_fault_at span kind = record {
+  within = Unit;
+  line = span.line;
+  column = span.column;
+  kind = kind;
+}

@@ -33,7 +33,12 @@ abbrev pub small_bank : Metamodel
 small_bank = record {
   format = 1;
   classes = record { name = codes "Client"; is_abstract = false; supers = []; features = 0 ∷ [] }
-      ∷ record { name = codes "Account"; is_abstract = false; supers = 0 ∷ []; features = 0 ∷ 1 ∷ [] }
+      ∷ record {
+        name = codes "Account";
+        is_abstract = false;
+        supers = 0 ∷ [];
+        features = 0 ∷ 1 ∷ [];
+      }
       ∷ [];
   features = record { owner = 0; name = codes "accounts"; kind = Reference 1 false 0 None }
       ∷ record { owner = 1; name = codes "balance"; kind = Attribute EInt (value.Int (pos 0)) }
@@ -48,30 +53,46 @@ abbrev pub word : ℕ → List ℕ → Name
 word column text = record { text = text; span = place column }
 
 abbrev pub node_item : Mark → ℕ → List ℕ → List ℕ → Item
-node_item mark column name class = item.Simple (simple.Marked mark (element.Node (word column name) (word column class)))
+node_item mark column name class =
+    item.Simple (simple.Marked mark (element.Node (word column name) (word column class)))
 
--- The edge by `accounts` between these two; its words stand in this column.
+-- The edge by `accounts` between these two; its words are in this column.
 abbrev pub edge : Mark → ℕ → List ℕ → List ℕ → Item
-edge mark column source target = item.Simple (simple.Marked mark (element.Edge (word column source) (word column target) (word column (codes "accounts"))))
+edge mark column source target =
+    item.Simple (simple.Marked mark
+    (element.Edge (word column source) (word column target) (word column (codes "accounts"))))
 
 -- The node's balance is set to this number.
 abbrev pub set : ℕ → List ℕ → ℕ → Item
-set column name n = item.Simple (simple.Set (word column name) (word column (codes "balance")) (record { pieces = piece.Int (pos n) (place column) ∷ []; one = refl }))
+set column name n =
+    item.Simple (simple.Set (word column name) (word column (codes "balance"))
+    (record { pieces = piece.Int (pos n) (place column) ∷ []; one = refl }))
 
 abbrev pub param : Direction → ℕ → List ℕ → List ℕ → Param
-param direction column name kind = record { direction = direction; name = word column name; kind = word column kind }
+param direction column name kind = record {
+  direction = direction;
+  name = word column name;
+  kind = word column kind;
+}
 
 -- The rule of this name, in column 0.
 abbrev pub rule_definition : List ℕ → List Param → List Item → Definition
-rule_definition name params items = definition.Rule (record { name = word 0 name; params = params; items = items })
+rule_definition name params items =
+    definition.Rule (record { name = word 0 name; params = params; items = items })
 
 -- One fault, in this column.
 abbrev pub only_fault : ℕ → RuleFaultKind → List RuleFault
-only_fault column kind = record { within = within.Rule; line = 1; column = column; kind = kind } ∷ []
+only_fault column kind =
+    record { within = within.Rule; line = 1; column = column; kind = kind } ∷ []
 
 -- The unit of this name, in this column, that calls these one by one.
 abbrev pub unit : ℕ → List ℕ → List Param → List Call → Definition
-unit column name params calls = definition.Unit (record { name = word column name; params = params; body = body.Sequential calls })
+unit column name params calls =
+    definition.Unit (record {
+      name = word column name;
+      params = params;
+      body = body.Sequential calls;
+    })
 
 -- A call of this, in this column.
 abbrev pub call : ℕ → List ℕ → List Bind → Call
@@ -92,4 +113,5 @@ only_unit column kind = record { within = within.Unit; line = 1; column = column
 
 -- What the third pass finds in a rule of these items, without parameters.
 abbrev pub statement_faults_of : List Item → List RuleFault
-statement_faults_of items = statement_faults small_bank [] (declared_nodes items) [] (statements items)
+statement_faults_of items =
+    statement_faults small_bank [] (declared_nodes items) [] (statements items)

@@ -6,4 +6,5 @@ use Rattle.hs_faults.specs.Named.{Knows}
 
 -- They are these.
 abbrev pub HasSeenUnits : SeenUnits → List WrittenUnit → Type 0
-HasSeenUnits seen units = Knows (λ other. other.name) seen.by_name units × (seen.count ≡ length units)
+HasSeenUnits seen units =
+    Knows (λ other. other.name) seen.by_name units × (seen.count ≡ length units)

@@ -50,21 +50,27 @@ is_edge_of part (Where block word test) = false
 
 -- At most 12 nodes and 16 edges of this part of the rule.
 abbrev pub has_few : List DeclaredNode → List Statement → BlockId → Bool
-has_few nodes statements part = nat_le (count_in nodes part) MAX_PATTERN_NODES && nat_le (length (filter (is_edge_of part) statements)) MAX_PATTERN_EDGES
+has_few nodes statements part =
+    nat_le (count_in nodes part) MAX_PATTERN_NODES
+    && nat_le (length (filter (is_edge_of part) statements)) MAX_PATTERN_EDGES
 
 -- An edge of this part, source, target and reference, whatever its mark is.
 abbrev pub is_alike : BlockId → Name → Name → Name → Statement → Bool
-is_alike part from to by (Edge block mark source target reference) = same_block part block && same_text from.text source.text && same_text to.text target.text && same_text by.text reference.text
+is_alike part from to by (Edge block mark source target reference) =
+    same_block part block && same_text from.text source.text && same_text to.text target.text
+    && same_text by.text reference.text
 is_alike part from to by (Set block node attribute value) = false
 is_alike part from to by (Where block word test) = false
 
 -- Few edges are alike.
 abbrev pub has_few_alike : List Statement → Statement → Bool
-has_few_alike statements (Edge block mark source target reference) = nat_le (length (filter (is_alike block source target reference) statements)) MAX_PARALLEL_EDGES
+has_few_alike statements (Edge block mark source target reference) =
+    nat_le (length (filter (is_alike block source target reference) statements)) MAX_PARALLEL_EDGES
 has_few_alike statements (Set block node attribute value) = true
 has_few_alike statements (Where block word test) = true
 
--- At most 16 parameters, 8 forbid and require blocks together, and 4 multi blocks; the kernel and each block have few nodes and edges, and few edges that are alike.
+-- At most 16 parameters, 8 forbid and require blocks together, and 4 multi blocks; the kernel and
+-- each block have few nodes and edges, and few edges that are alike.
 abbrev pub sizes_fit : List Param → List BlockId → List DeclaredNode → List Statement → Bool
 sizes_fit params blocks nodes statements =
     nat_le (length params) MAX_PARAMS
@@ -78,7 +84,8 @@ sizes_fit params blocks nodes statements =
 abbrev pub keeps_limits : Metamodel → Rule → Bool
 keeps_limits m rule =
     sizes_fit rule.params (blocks rule.items) (declared_nodes rule.items) (statements rule.items)
-    && list_all (is_flat m (data_params rule.params) (declared_nodes rule.items)) (statements rule.items)
+    && list_all (is_flat m (data_params rule.params) (declared_nodes rule.items))
+    (statements rule.items)
 
 abbrev pub size_faults : Metamodel → Rule → List RuleFault
 size_faults m rule = fault_if (not (keeps_limits m rule)) (fault_at rule.name.span kind.Limit)

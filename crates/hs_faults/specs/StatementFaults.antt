@@ -44,13 +44,15 @@ same_block (Pattern i) (Pattern j) = i == j
 same_block (Multi i) (Multi j) = i == j
 same_block _ _ = false
 
--- What stands in one part of a rule may name the nodes of the kernel and of that part.
+-- The elements of a block may name the nodes of the kernel and of that block.
 abbrev pub is_visible : BlockId → DeclaredNode → Bool
 is_visible block node = is_kernel node.block || same_block block node.block
 
 -- The node of this name, where it may be named from here.
 abbrev pub visible_node : List DeclaredNode → BlockId → List ℕ → Option DeclaredNode
-visible_node nodes block name = option_and_then (λ node. if is_visible block node then Some node else None) (node_named nodes name)
+visible_node nodes block name =
+    option_and_then (λ node. if is_visible block node then Some node else None)
+    (node_named nodes name)
 
 -- The node's class, by its number.
 abbrev pub node_class : Metamodel → DeclaredNode → Option ℕ
@@ -58,7 +60,8 @@ node_class m node = class_number m node.class.text
 
 -- The node's class conforms to this one.
 abbrev pub is_of_class : Metamodel → ℕ → DeclaredNode → Bool
-is_of_class m class node = option_map_or (λ c. conforms (supers_of m) c class) (node_class m node) false
+is_of_class m class node =
+    option_map_or (λ c. conforms (supers_of m) c class) (node_class m node) false
 
 abbrev pub is_deleted : Mark → Bool
 is_deleted Preserve = false
@@ -79,20 +82,24 @@ target_from m node name = option_and_then (λ c. target_named m c name) (node_cl
 abbrev pub attribute_of : Metamodel → DeclaredNode → List ℕ → Option (ℕ × Kind)
 attribute_of m node name = option_and_then (λ c. class_attribute m c name) (node_class m node)
 
--- An edge joins nodes that are open to it, by a reference of the source's class that leads to the target's, and that its mark lets it join.
-unfoldable pub edge_checked : Metamodel → List DeclaredNode → BlockId → Mark → Name → Name → Name → Result (Unit {0}) RuleFault
+-- An edge joins nodes that are open to it, by a reference of the source's class that leads to the
+-- target's, and that its mark lets it join.
+unfoldable pub edge_checked : Metamodel → List DeclaredNode → BlockId → Mark → Name → Name → Name
+    → Result (Unit {0}) RuleFault
 edge_checked m nodes block mark source target reference = do
   from ← needed (visible_node nodes block source.text) (fault_at source.span kind.UnknownNode)
   to ← needed (visible_node nodes block target.text) (fault_at target.span kind.UnknownNode)
   class ← needed (target_from m from reference.text) (fault_at reference.span kind.UnknownReference)
-  demand (is_of_class m class to && may_join block mark from.mark && may_join block mark to.mark) (fault_at reference.span kind.BadEnds)
+  demand (is_of_class m class to && may_join block mark from.mark && may_join block mark to.mark)
+      (fault_at reference.span kind.BadEnds)
 
 -- The number and the kind of the data parameter of this name.
 abbrev pub data_param_named : List DataParam → List ℕ → Option (ℕ × Kind)
 data_param_named params name =
     option_map (λ param. (param.number, param.kind)) (first_named (λ param. param.name) params name)
 
--- A node that may not be named is known as one that can't be read where it is of a forbid or require block, and isn't known where it is of another multi block.
+-- A node that may not be named is known as one that can't be read where it is of a forbid or
+-- require block, and isn't known where it is of another multi block.
 abbrev pub hidden_read : BlockId → Option Bool
 hidden_read Kernel = None
 hidden_read (Pattern i) = Some false
@@ -100,18 +107,20 @@ hidden_read (Multi i) = None
 
 -- Whether the node can be read from this part of the rule, where it is known there.
 abbrev pub can_read : BlockId → DeclaredNode → Option Bool
-can_read block node = if is_visible block node then Some (is_left (mark_meant node.mark)) else hidden_read node.block
+can_read block node =
+    if is_visible block node then Some (is_left (mark_meant node.mark)) else hidden_read node.block
 
 -- The node's number, and whether it can be read.
 abbrev pub readable : BlockId → DeclaredNode → Option (ℕ × Bool)
 readable block node = option_map (λ left. (node.number, left)) (can_read block node)
 
--- What the names of an expression stand for, from this part of the rule.
+-- What the names of an expression denote in this block.
 abbrev pub rule_scope : Metamodel → List DataParam → List DeclaredNode → BlockId → Names
 rule_scope m params nodes block = record {
   param = data_param_named params;
   node = λ name. option_and_then (readable block) (node_named nodes name);
-  attribute = λ owner name. option_and_then (λ node. attribute_of m node name) (node_named nodes owner);
+  attribute =
+      λ owner name. option_and_then (λ node. attribute_of m node name) (node_named nodes owner);
 }
 
 abbrev pub kind_of_wrong : Wrong → RuleFaultKind
@@ -150,34 +159,45 @@ pub record Slot : Type 0 where
   pub attribute : List ℕ
 
 abbrev pub is_set_before : List Slot → List ℕ → List ℕ → Bool
-is_set_before slots node attribute = list_any (λ slot. same_text node slot.node && same_text attribute slot.attribute) slots
+is_set_before slots node attribute =
+    list_any (λ slot. same_text node slot.node && same_text attribute slot.attribute) slots
 
--- A set writes a slot that was not set before, of a node of its own part of the rule that isn't deleted, with a value of the slot's kind.
-unfoldable pub set_checked : Metamodel → List DataParam → List DeclaredNode → List Slot → BlockId → Name → Name → NameExpr → Result (Unit {0}) RuleFault
+-- A set writes a slot that was not set before, of a node of its own part of the rule that isn't
+-- deleted, with a value of the slot's kind.
+unfoldable pub set_checked : Metamodel → List DataParam → List DeclaredNode → List Slot → BlockId
+    → Name → Name → NameExpr → Result (Unit {0}) RuleFault
 set_checked m params nodes before block node attribute value = do
   written ← needed (visible_node nodes block node.text) (fault_at node.span kind.UnknownNode)
   _ ← demand (not (is_deleted written.mark)) (fault_at node.span kind.WriteOnDeleted)
   _ ← demand (same_block block written.block) (fault_at node.span kind.KernelSlotInCopy)
-  wanted ← needed (attribute_of m written attribute.text) (fault_at attribute.span kind.UnknownAttribute)
-  _ ← demand (not (is_set_before before node.text attribute.text)) (fault_at attribute.span kind.Twice)
+  wanted ← needed (attribute_of m written attribute.text)
+      (fault_at attribute.span kind.UnknownAttribute)
+  _ ← demand (not (is_set_before before node.text attribute.text))
+      (fault_at attribute.span kind.Twice)
   found ← kind_checked (rule_scope m params nodes block) value
   demand (same_kind found wanted.1) (fault_at attribute.span kind.BadKind)
 
 -- A condition is true or false.
-unfoldable pub where_checked : Metamodel → List DataParam → List DeclaredNode → BlockId → Span → NameExpr → Result (Unit {0}) RuleFault
+unfoldable pub where_checked : Metamodel → List DataParam → List DeclaredNode → BlockId → Span
+    → NameExpr → Result (Unit {0}) RuleFault
 where_checked m params nodes block word test = do
   found ← kind_checked (rule_scope m params nodes block) test
   demand (same_kind found sort.Bool) (fault_at word kind.BadKind)
 
-abbrev pub statement_checked : Metamodel → List DataParam → List DeclaredNode → List Slot → Statement → Result (Unit {0}) RuleFault
-statement_checked m params nodes before (Edge block mark source target reference) = edge_checked m nodes block mark source target reference
-statement_checked m params nodes before (Set block node attribute value) = set_checked m params nodes before block node attribute value
-statement_checked m params nodes before (Where block word test) = where_checked m params nodes block word test
+abbrev pub statement_checked : Metamodel → List DataParam → List DeclaredNode → List Slot
+    → Statement → Result (Unit {0}) RuleFault
+statement_checked m params nodes before (Edge block mark source target reference) =
+    edge_checked m nodes block mark source target reference
+statement_checked m params nodes before (Set block node attribute value) =
+    set_checked m params nodes before block node attribute value
+statement_checked m params nodes before (Where block word test) =
+    where_checked m params nodes block word test
 
 -- The slot that a statement sets, if it sets one.
 abbrev pub slot_set_by : Statement → List Slot
 slot_set_by (Edge block mark source target reference) = []
-slot_set_by (Set block node attribute value) = record { node = node.text; attribute = attribute.text } ∷ []
+slot_set_by (Set block node attribute value) =
+    record { node = node.text; attribute = attribute.text } ∷ []
 slot_set_by (Where block word test) = []
 
 -- The first fault, if there is one.
@@ -185,7 +205,11 @@ abbrev pub first_fault : {A F : Type 0} → Result A F → List F
 first_fault (Ok x) = []
 first_fault (Err fault) = fault ∷ []
 
--- The faults statement by statement. Each is checked with the slots in mind that those before it set.
-abbrev pub statement_faults : Metamodel → List DataParam → List DeclaredNode → List Slot → List Statement → List RuleFault
+-- The faults statement by statement. Each is checked with the slots in mind that those before it
+-- set.
+abbrev pub statement_faults : Metamodel → List DataParam → List DeclaredNode → List Slot
+    → List Statement → List RuleFault
 statement_faults m params nodes before [] = []
-statement_faults m params nodes before (statement ∷ statements) = first_fault (statement_checked m params nodes before statement) ++ statement_faults m params nodes (before ++ slot_set_by statement) statements
+statement_faults m params nodes before (statement ∷ statements) =
+    first_fault (statement_checked m params nodes before statement)
+    ++ statement_faults m params nodes (before ++ slot_set_by statement) statements

@@ -104,7 +104,8 @@ fn object_fits(meta: &Meta, own: &ParamIndex<'_>, wanted: &Text, value: &Atom) -
 }
 
 fn names_object(meta: &Meta, own: &ParamIndex<'_>, wanted: &Text, name: &Text) -> bool
-    ensures { result ≡ option_map_or (λ param. spec.class_fits meta.now param.kind.text wanted.now) (spec.first_param own.now name.now) false }
+    ensures { result ≡ option_map_or (λ param. spec.class_fits meta.now param.kind.text wanted.now)
+        (spec.first_param own.now name.now) false }
 {
     match own.find(name.as_str()) {
         Some(param) => class_fits(meta, &param.kind.text, wanted),
@@ -132,7 +133,8 @@ fn gives(
     parameter: &Text,
     value: &Atom,
 ) -> bool
-    ensures { result ≡ option_map_or (spec.is_given meta.now own.now value.now) (spec.first_param params.now parameter.now) false }
+    ensures { result ≡ option_map_or (spec.is_given meta.now own.now value.now)
+        (spec.first_param params.now parameter.now) false }
 {
     match params.find(parameter.as_str()) {
         Some(param) => is_given(meta, own, value, param),
@@ -153,7 +155,8 @@ fn takes(
     parameter: &Text,
     variable: &Text,
 ) -> bool
-    ensures { result ≡ option_map_or (spec.is_taken meta.now own.now variable.now) (spec.first_param params.now parameter.now) false }
+    ensures { result ≡ option_map_or (spec.is_taken meta.now own.now variable.now)
+        (spec.first_param params.now parameter.now) false }
 {
     match params.find(parameter.as_str()) {
         Some(param) => is_taken(meta, own, variable, param),
@@ -169,7 +172,8 @@ fn is_taken(meta: &Meta, own: &ParamIndex<'_>, variable: &Text, param: &Param) -
 
 /// Whether what the parameter gives back can go to this one of the unit.
 fn has_goal(meta: &Meta, own: &ParamIndex<'_>, variable: &Text, param: &Param) -> bool
-    ensures { result ≡ option_map_or (spec.is_goal meta.now param.now) (spec.first_param own.now variable.now) false }
+    ensures { result ≡ option_map_or (spec.is_goal meta.now param.now)
+        (spec.first_param own.now variable.now) false }
 {
     match own.find(variable.as_str()) {
         Some(goal) => is_goal(meta, param, goal),

@@ -16,8 +16,8 @@ use hs_types::Meta;
 use std::alloc::{AllocError, Global};
 use std::marker::Model;
 
-/// The rules of a text by their names, and what calls ask of them and of the units. Contracts see the
-/// definitions of the text, and the metamodel.
+/// The rules of a text by their names, and what calls ask of them and of the units. Contracts see
+/// the definitions of the text, and the metamodel.
 #[derive(Drop)]
 pub struct Callees<'a, 's> {
     meta: &'a Meta,
@@ -35,9 +35,11 @@ impl<'a, 's> Model for Callees<'a, 's> {
 
     ghost Value = { Callable };
 
-    ghost view = { λ callees. record { meta = callees.meta.now; definitions = callees.definitions.now } };
+    ghost view = { λ callees.
+        record { meta = callees.meta.now; definitions = callees.definitions.now } };
 
-    ghost invariant = { λ callees. Knows (λ other. other.name) callees.rules (rules_of callees.definitions.now)
+    ghost invariant = { λ callees.
+        Knows (λ other. other.name) callees.rules (rules_of callees.definitions.now)
         × (callees.signatures ≡ all_params callees.definitions.now) };
 }
 
@@ -49,7 +51,8 @@ impl<'a, 's> Callees<'a, 's> {
         signatures: &'s [Signature<'a>],
     ) -> Result<Callees<'a, 's>, AllocError>
         requires signatures { signatures.now ≡ all_params definitions.now }
-        ensures { IfOk result (λ callees. callees ≡ record { meta = meta.now; definitions = definitions.now }) }
+        ensures { IfOk result
+            (λ callees. callees ≡ record { meta = meta.now; definitions = definitions.now }) }
     {
         let rules = known_rules(alloc, definitions)?;
         let signatures = NameIndex::of(alloc, signatures)?;
@@ -77,14 +80,16 @@ impl<'a, 's> Callees<'a, 's> {
 
     /// What a call asks of what has this name: of the first rule, or else of the first unit.
     pub fn signature_of(&self, name: &str) -> Option<&'s Signature<'a>>
-        ensures { option_map (λ signature. signature.now.params) result ≡ spec.callee_params (spec.rules_of self.now.definitions) (spec.units_of self.now.definitions) name.now }
+        ensures { option_map (λ signature. signature.now.params) result ≡ spec.callee_params
+            (spec.rules_of self.now.definitions) (spec.units_of self.now.definitions) name.now }
     {
         self.signatures.find(name)
     }
 }
 
 fn known_rules(alloc: Global, definitions: &[Definition]) -> Result<NamesSeen<'_, Rule>, AllocError>
-    ensures { IfOk result (λ known. Knows (λ other. other.name) known (spec.rules_of definitions.now)) }
+    ensures { IfOk result
+        (λ known. Knows (λ other. other.name) known (spec.rules_of definitions.now)) }
 {
     let mut known = NamesSeen::new(alloc);
     for definition in definitions {

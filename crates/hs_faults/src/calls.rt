@@ -31,7 +31,9 @@ pub fn check_body(
     own: &ParamIndex<'_>,
     body: &Body,
 ) -> Result<(), Failure<RuleFault>>
-    ensures { Gives result (verdict (spec.body_faults (spec.call_faults callees.now.meta (spec.rules_of callees.now.definitions) (spec.units_of callees.now.definitions) own.now) own.now body.now)) }
+    ensures { Gives result (verdict
+        (spec.body_faults (spec.call_faults callees.now.meta (spec.rules_of callees.now.definitions)
+        (spec.units_of callees.now.definitions) own.now) own.now body.now)) }
 {
     match body {
         Body::Sequential(calls) => check_calls(alloc, callees, own, calls.as_slice()),
@@ -55,7 +57,9 @@ fn check_calls(
     own: &ParamIndex<'_>,
     calls: &[Call],
 ) -> Result<(), Failure<RuleFault>>
-    ensures { Gives result (verdict (each (λ i call. spec.call_faults callees.now.meta (spec.rules_of callees.now.definitions) (spec.units_of callees.now.definitions) own.now call) calls.now)) }
+    ensures { Gives result
+        (verdict (each (λ i call. spec.call_faults callees.now.meta (spec.rules_of
+        callees.now.definitions) (spec.units_of callees.now.definitions) own.now call) calls.now)) }
 {
     for call in calls {
         check_call(alloc, callees, own, call)?;
@@ -73,7 +77,9 @@ fn check_choice(
     then: &Call,
     otherwise: &Option<Call>,
 ) -> Result<(), Failure<RuleFault>>
-    ensures { Gives result (verdict (spec.choice_faults (spec.call_faults callees.now.meta (spec.rules_of callees.now.definitions) (spec.units_of callees.now.definitions) own.now) test.now then.now otherwise.now)) }
+    ensures { Gives result (verdict (spec.choice_faults
+        (spec.call_faults callees.now.meta (spec.rules_of callees.now.definitions)
+        (spec.units_of callees.now.definitions) own.now) test.now then.now otherwise.now)) }
 {
     check_call(alloc, callees, own, test)?;
     check_call(alloc, callees, own, then)?;
@@ -92,7 +98,10 @@ fn check_counted(
     count: &Count,
     call: &Call,
 ) -> Result<(), Failure<RuleFault>>
-    ensures { Gives result (verdict (spec.call_faults callees.now.meta (spec.rules_of callees.now.definitions) (spec.units_of callees.now.definitions) own.now call.now ++ spec.count_faults own.now count.now)) }
+    ensures { Gives result
+        (verdict (spec.call_faults callees.now.meta (spec.rules_of callees.now.definitions)
+        (spec.units_of callees.now.definitions) own.now call.now
+        ++ spec.count_faults own.now count.now)) }
 {
     check_call(alloc, callees, own, call)?;
     check_count(own, count)
@@ -133,7 +142,9 @@ fn check_call(
     own: &ParamIndex<'_>,
     call: &Call,
 ) -> Result<(), Failure<RuleFault>>
-    ensures { Gives result (verdict (spec.call_faults callees.now.meta (spec.rules_of callees.now.definitions) (spec.units_of callees.now.definitions) own.now call.now)) }
+    ensures { Gives result
+        (verdict (spec.call_faults callees.now.meta (spec.rules_of callees.now.definitions)
+        (spec.units_of callees.now.definitions) own.now call.now)) }
 {
     let signature = needed(
         callees.signature_of(call.callee.text.as_str()),
@@ -151,7 +162,8 @@ fn check_arguments(
     signature: &Signature<'_>,
     call: &Call,
 ) -> Result<(), Failure<RuleFault>>
-    ensures { Gives result (verdict (spec.argument_faults meta.now own.now signature.now.params call.now)) }
+    ensures { Gives result
+        (verdict (spec.argument_faults meta.now own.now signature.now.params call.now)) }
 {
     let bound = binds_by_name(alloc, meta, own, signature.params(), call)?;
     let binds = NameIndex::new(call.binds.as_slice(), bound);
@@ -161,8 +173,8 @@ fn check_arguments(
     )
 }
 
-/// Whether what is called has all that it needs. Where it has, each parameter that needs something has
-/// a bind of its own, so a call that is served costs no more than its binds.
+/// Whether what is called has all that it needs. Where it has, each parameter that needs something
+/// has a bind of its own, so a call that is served costs no more than its binds.
 fn is_served(signature: &Signature<'_>, binds: &BindIndex<'_>) -> bool
     ensures { result ≡ spec.are_served signature.now.params binds.now }
 {
@@ -190,7 +202,8 @@ fn binds_by_name<'a>(
     params: &ParamIndex<'_>,
     call: &'a Call,
 ) -> Result<NamesSeen<'a, Bind>, Failure<RuleFault>>
-    ensures { GivesWhere (λ bound. Knows tied_name bound call.now.binds) result (verdict (spec.faults_of_binds meta.now own.now params.now call.now.callee call.now.binds)) }
+    ensures { GivesWhere (λ bound. Knows tied_name bound call.now.binds) result (verdict
+        (spec.faults_of_binds meta.now own.now params.now call.now.callee call.now.binds)) }
 {
     let mut bound = NamesSeen::new(alloc);
     for bind in call.binds.as_slice() {
@@ -210,7 +223,8 @@ fn check_bind<'a>(
     bind: &'a Bind,
 ) -> Result<(), Failure<RuleFault>>
     ensures fault { (before : List WrittenBind) → Knows tied_name bound.old before
-        → Gives result (verdict (spec.bind_faults meta.now own.now params.now callee.now before bind.now)) }
+        → Gives result (verdict
+        (spec.bind_faults meta.now own.now params.now callee.now before bind.now)) }
     ensures bound { (before : List WrittenBind) → Knows tied_name bound.old before
         → OnOk result (Knows tied_name bound.new (before ++ bind.now ∷ [])) }
 {

@@ -17,8 +17,8 @@ use hs_text::{Definition, Syntax};
 use hs_types::Meta;
 use std::alloc::Global;
 
-/// Whether the rules and units of a text are free of faults over the metamodel, and else their first
-/// fault: all rules come before all units.
+/// Whether the rules and units of a text are free of faults over the metamodel, and else their
+/// first fault: all rules come before all units.
 #[tactic(auto, using(hs_expr::proofs::Verdicts::each_steps, crate::proofs::Failures::fails))]
 pub fn check(alloc: Global, meta: &Meta, syntax: &Syntax) -> Result<(), Failure<RuleFault>>
     ensures { Gives result (verdict (spec.faults_of meta.now syntax.now.definitions)) }
@@ -27,8 +27,8 @@ pub fn check(alloc: Global, meta: &Meta, syntax: &Syntax) -> Result<(), Failure<
     check_units(alloc, meta, syntax)
 }
 
-/// Whether the units of a text are free of faults over the metamodel, and else their first fault: unit
-/// by unit in written order, and then the first unit that calls itself by a path. Rules are
+/// Whether the units of a text are free of faults over the metamodel, and else their first fault:
+/// unit by unit in written order, and then the first unit that calls itself by a path. Rules are
 /// looked at for their names and parameters alone.
 pub fn check_units(alloc: Global, meta: &Meta, syntax: &Syntax) -> Result<(), Failure<RuleFault>>
     ensures { Gives result (verdict (spec.faults_of_units meta.now syntax.now.definitions)) }

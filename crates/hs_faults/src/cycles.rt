@@ -38,7 +38,8 @@ pub fn check_cycles(
     definitions: &[Definition],
 ) -> Result<(), Failure<RuleFault>>
     requires callees { callees.now.definitions ≡ definitions.now }
-    ensures { Gives result (verdict (spec.cycle_faults (spec.rules_of definitions.now) (spec.units_of definitions.now))) }
+    ensures { Gives result (verdict
+        (spec.cycle_faults (spec.rules_of definitions.now) (spec.units_of definitions.now))) }
 {
     let units = units_of(alloc, definitions)?;
     let called = called_by_each(alloc, callees, units.as_slice())?;
@@ -91,7 +92,8 @@ fn called_by_each(
     callees: &Callees<'_, '_>,
     units: &[UnitRef<'_>],
 ) -> Result<List<List<usize>>, AllocError>
-    ensures { IfOk result (λ called. called ≡ map (spec.called_units (spec.rules_of callees.now.definitions) units.now) units.now) }
+    ensures { IfOk result (λ called. called
+        ≡ map (spec.called_units (spec.rules_of callees.now.definitions) units.now) units.now) }
 {
     let mut called = List::new(alloc);
     for unit in units {
@@ -107,7 +109,8 @@ fn called_by(
     units: &[UnitRef<'_>],
     body: &Body,
 ) -> Result<List<usize>, AllocError>
-    ensures { IfOk result (λ called. called ≡ filter_map (spec.unit_called (spec.rules_of callees.now.definitions) units.now) (spec.written_calls body.now)) }
+    ensures { IfOk result (λ called. called ≡ filter_map (spec.unit_called
+        (spec.rules_of callees.now.definitions) units.now) (spec.written_calls body.now)) }
 {
     let mut called = List::new(alloc);
     add_called_by(callees, units, &mut called, body)?;
@@ -121,7 +124,8 @@ fn add_called_by(
     called: &mut List<usize>,
     body: &Body,
 ) -> Result<(), AllocError>
-    ensures { OnOk result (called.new ≡ called.old ++ filter_map (spec.unit_called (spec.rules_of callees.now.definitions) units.now) (spec.written_calls body.now)) }
+    ensures { OnOk result (called.new ≡ called.old ++ filter_map (spec.unit_called
+        (spec.rules_of callees.now.definitions) units.now) (spec.written_calls body.now)) }
 {
     match body {
         Body::Sequential(calls) => add_all_called(callees, units, called, calls.as_slice()),
@@ -147,7 +151,8 @@ fn add_called_else(
     called: &mut List<usize>,
     otherwise: &Option<Call>,
 ) -> Result<(), AllocError>
-    ensures { OnOk result (called.new ≡ called.old ++ filter_map (spec.unit_called (spec.rules_of callees.now.definitions) units.now) (spec.else_calls otherwise.now)) }
+    ensures { OnOk result (called.new ≡ called.old ++ filter_map (spec.unit_called
+        (spec.rules_of callees.now.definitions) units.now) (spec.else_calls otherwise.now)) }
 {
     match otherwise {
         Some(call) => add_called(callees, units, called, call),
@@ -161,7 +166,8 @@ fn add_all_called(
     called: &mut List<usize>,
     calls: &[Call],
 ) -> Result<(), AllocError>
-    ensures { OnOk result (called.new ≡ called.old ++ filter_map (spec.unit_called (spec.rules_of callees.now.definitions) units.now) calls.now) }
+    ensures { OnOk result (called.new ≡ called.old ++ filter_map
+        (spec.unit_called (spec.rules_of callees.now.definitions) units.now) calls.now) }
 {
     for call in calls {
         add_called(callees, units, called, call)?;
@@ -176,7 +182,8 @@ fn add_called(
     called: &mut List<usize>,
     call: &Call,
 ) -> Result<(), AllocError>
-    ensures { OnOk result (called.new ≡ called.old ++ filter_map (spec.unit_called (spec.rules_of callees.now.definitions) units.now) (call.now ∷ [])) }
+    ensures { OnOk result (called.new ≡ called.old ++ filter_map
+        (spec.unit_called (spec.rules_of callees.now.definitions) units.now) (call.now ∷ [])) }
 {
     match unit_called(callees, units, call) {
         Some(number) => called.push(number),
@@ -184,7 +191,7 @@ fn add_called(
     }
 }
 
-/// The number of the unit that is called; a rule goes before a unit of its name.
+/// The number of the unit that is called; a rule comes before a unit of its name.
 fn unit_called(callees: &Callees<'_, '_>, units: &[UnitRef<'_>], call: &Call) -> Option<usize>
     ensures { result ≡ spec.unit_called (spec.rules_of callees.now.definitions) units.now call.now }
 {

@@ -48,7 +48,7 @@ fn check_param<'a>(
     check_kind(meta, &param.kind)
 }
 
-/// The first fault of what a parameter stands for.
+/// The first fault of a parameter's kind.
 fn check_kind(meta: &Meta, word: &Name) -> Result<(), Failure<RuleFault>>
     ensures { Gives result (verdict (spec.param_kind_faults meta.now word.now)) }
 {
@@ -79,7 +79,8 @@ pub fn nodes_by_name<'a>(
     meta: &Meta,
     nodes: &'a [DeclaredNode],
 ) -> Result<NodeIndex<'a>, Failure<RuleFault>>
-    ensures { GivesWhere (λ index. index ≡ nodes.now) result (verdict (spec.faults_of_nodes meta.now nodes.now)) }
+    ensures { GivesWhere (λ index. index ≡ nodes.now) result
+        (verdict (spec.faults_of_nodes meta.now nodes.now)) }
 {
     let mut known = NamesSeen::new(alloc);
     for node in nodes {

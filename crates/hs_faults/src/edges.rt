@@ -41,7 +41,9 @@ pub fn visible_node<'a>(
     block: BlockId,
     name: &Name,
 ) -> Result<&'a DeclaredNode, Failure<RuleFault>>
-    ensures { GivesBy (λ node. node.now) result (needed (spec.visible_node nodes.now block name.now.text) (fault_at name.now.span kind.UnknownNode)) }
+    ensures { GivesBy (λ node. node.now) result
+        (needed (spec.visible_node nodes.now block name.now.text)
+        (fault_at name.now.span kind.UnknownNode)) }
 {
     match nodes.find(name.text.as_str()) {
         Some(node) if is_visible(block, node) => Ok(node),
@@ -105,7 +107,8 @@ pub fn check_edge(
     target: &Name,
     reference: &Name,
 ) -> Result<(), Failure<RuleFault>>
-    ensures { Gives result (spec.edge_checked meta.now nodes.now block mark source.now target.now reference.now) }
+    ensures { Gives result
+        (spec.edge_checked meta.now nodes.now block mark source.now target.now reference.now) }
 {
     let from = visible_node(nodes, block, source)?;
     let to = visible_node(nodes, block, target)?;

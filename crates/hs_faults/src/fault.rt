@@ -1,3 +1,5 @@
+//! Faults of rules and units, with their words.
+
 ghost use Rattle.std.specs.Prelude.{◌≡◌};
 ghost use Rattle.hs_faults.specs.Places.{fault_at, unit_fault_at};
 ghost use Rattle.hs_faults.specs.Words as spec;
@@ -7,7 +9,7 @@ use hs_expr::Span;
 /// What is wrong in a rule or a unit.
 #[derive(Clone, Copy, PartialEq, Eq, Debug)]
 pub enum RuleFaultKind {
-    /// A name comes again, or a slot is set again.
+    /// A name is declared again, or a slot is set again.
     Twice,
     UnknownClass,
     /// No concrete class conforms to the class, or a node of an abstract class is created.
@@ -18,7 +20,8 @@ pub enum RuleFaultKind {
     UnknownNode,
     /// The source's class has no such reference.
     UnknownReference,
-    /// The reference doesn't lead to the target's class, or an end has a mark that the edge can't join.
+    /// The reference doesn't lead to the target's class, or an end has a mark that the edge can't
+    /// join.
     BadEnds,
     /// A deleted node's attribute is set.
     WriteOnDeleted,
@@ -65,7 +68,7 @@ impl RuleFaultKind {
     }
 }
 
-/// What a fault stands in.
+/// What a fault is in.
 #[derive(Clone, Copy, PartialEq, Eq, Debug)]
 pub enum Within {
     Rule,

@@ -1,3 +1,5 @@
+//! Items by name.
+
 ghost use Rattle.std.specs.Prelude.{◌≡◌, IfOk, option_copied};
 ghost use Rattle.hs_faults.specs.Named.{Knows, first_named};
 

@@ -27,7 +27,7 @@ fn class_place(meta: &Meta, name: &Text) -> Option<usize>
         .position(|class| class.name == *name)
 }
 
-/// The kind of data that a parameter of this kind has; none where it stands for an object.
+/// The kind of data that a parameter of this kind has; none where it takes an object.
 pub fn data_named(name: &Text) -> Option<Kind>
     ensures { result ≡ spec.data_named name.now }
 {

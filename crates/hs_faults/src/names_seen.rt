@@ -91,7 +91,8 @@ pub fn add_named<'a, T: Named>(
 
 /// The first item of this name.
 pub fn find_named<'a, T: Named>(known: &NamesSeen<'a, T>, name: &str) -> Option<&'a T>
-    ensures { (items : List T) → Knows T.named known.now items → option_copied result ≡ first_named T.named items name.now }
+    ensures { (items : List T) → Knows T.named known.now items
+        → option_copied result ≡ first_named T.named items name.now }
 {
     known.get(name).copied()
 }
@@ -99,7 +100,8 @@ pub fn find_named<'a, T: Named>(known: &NamesSeen<'a, T>, name: &str) -> Option<
 /// Adds the item, unless there is one of its name.
 #[tactic(auto, using(crate::proofs::Index::known_again))]
 pub fn keep_first<'a, T: Named>(known: &mut NamesSeen<'a, T>, item: &'a T) -> Result<(), AllocError>
-    ensures { (before : List T) → Knows T.named known.old before → OnOk result (Knows T.named known.new (before ++ item.now ∷ [])) }
+    ensures { (before : List T) → Knows T.named known.old before
+        → OnOk result (Knows T.named known.new (before ++ item.now ∷ [])) }
 {
     if find_named(known, item.name().text.as_str()).is_none() {
         add_named(known, item)?;

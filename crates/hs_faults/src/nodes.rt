@@ -9,8 +9,7 @@ use hs_expr::{List, Name};
 use hs_text::{Element, Item, Mark, Simple};
 use std::alloc::{AllocError, Global};
 
-/// Where in a rule something stands: in the kernel, or in a block, by the block's place among the
-/// rule's items.
+/// A part of a rule: the kernel, or a block, by its index among the rule's items.
 #[derive(Clone, Copy, PartialEq, Eq, Hash, Debug)]
 pub enum BlockId {
     Kernel,
@@ -73,7 +72,8 @@ fn add_of_elements(
     block: BlockId,
     elements: &[Element],
 ) -> Result<(), AllocError>
-    ensures { OnOk result (nodes.new ≡ nodes.old ++ flat_map (spec.node_of_element block Mark.Preserve) elements.now) }
+    ensures { OnOk result (nodes.new
+        ≡ nodes.old ++ flat_map (spec.node_of_element block Mark.Preserve) elements.now) }
 {
     for element in elements {
         add_of_element(nodes, block, Mark::Preserve, element)?;
@@ -86,7 +86,8 @@ fn add_of_simples(
     block: BlockId,
     simples: &[Simple],
 ) -> Result<(), AllocError>
-    ensures { OnOk result (nodes.new ≡ nodes.old ++ flat_map (spec.node_of_simple block) simples.now) }
+    ensures { OnOk result
+        (nodes.new ≡ nodes.old ++ flat_map (spec.node_of_simple block) simples.now) }
 {
     for simple in simples {
         add_of_simple(nodes, block, simple)?;

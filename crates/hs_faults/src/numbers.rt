@@ -33,7 +33,8 @@ pub fn count_in(nodes: &[DeclaredNode], part: BlockId) -> usize
 fn count_one(counts: &mut Counts, block: BlockId) -> Result<u16, AllocError>
     ensures count { (nodes : List DeclaredNode) → spec.HasCounts counts.old nodes
         → IfOk result (λ count. count ≡ spec.number_at (spec.count_in nodes block)) }
-    ensures counts { (nodes : List DeclaredNode) (node : DeclaredNode) → spec.HasCounts counts.old nodes → node.block ≡ block
+    ensures counts { (nodes : List DeclaredNode) (node : DeclaredNode)
+        → spec.HasCounts counts.old nodes → node.block ≡ block
         → OnOk result (spec.HasCounts counts.new (nodes ++ node ∷ [])) }
 {
     let count = counts.get(&block).copied().unwrap_or(0);
@@ -48,9 +49,12 @@ fn add_numbered(
     kernel: u16,
     node: DeclaredNode,
 ) -> Result<(), AllocError>
-    ensures all { (nodes before : List DeclaredNode) → kernel ≡ spec.number_at (spec.count_in nodes BlockId.Kernel) → spec.HasCounts counts.old before
-        → OnOk result (all.new ≡ all.old ++ spec.with_number (spec.number_of_node nodes before node) node ∷ []) }
-    ensures counts { (before : List DeclaredNode) → spec.HasCounts counts.old before → OnOk result (spec.HasCounts counts.new (before ++ node ∷ [])) }
+    ensures all { (nodes before : List DeclaredNode) → kernel
+        ≡ spec.number_at (spec.count_in nodes BlockId.Kernel) → spec.HasCounts counts.old before
+        → OnOk result (all.new
+        ≡ all.old ++ spec.with_number (spec.number_of_node nodes before node) node ∷ []) }
+    ensures counts { (before : List DeclaredNode) → spec.HasCounts counts.old before
+        → OnOk result (spec.HasCounts counts.new (before ++ node ∷ [])) }
 {
     let mut node = node;
     let first = if node.block == BlockId::Kernel {

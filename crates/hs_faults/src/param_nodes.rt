@@ -1,4 +1,4 @@
-//! The nodes that stand for a rule's parameters.
+//! The nodes of a rule's parameters.
 
 ghost use Rattle.std.specs.Prelude.{◌≡◌, false, true};
 ghost use Rattle.std.specs.Option.{option_map_or};
@@ -56,7 +56,8 @@ fn object_fits(nodes: &NodeIndex<'_>, param: &Param) -> Result<(), RuleFault>
 
 /// Whether the kernel has a node of the parameter's name, on its side.
 fn has_node(nodes: &NodeIndex<'_>, param: &Param) -> bool
-    ensures { result ≡ option_map_or (spec.is_node_of param.now) (node_named nodes.now param.now.name.text) false }
+    ensures { result ≡ option_map_or (spec.is_node_of param.now)
+        (node_named nodes.now param.now.name.text) false }
 {
     match nodes.find(param.name.text.as_str()) {
         Some(node) => node.block == BlockId::Kernel && is_on_side(param.direction, node.mark),
@@ -66,7 +67,8 @@ fn has_node(nodes: &NodeIndex<'_>, param: &Param) -> bool
 
 /// Whether the node of the parameter's name, where there is one, has its class.
 fn has_class(nodes: &NodeIndex<'_>, param: &Param) -> bool
-    ensures { result ≡ option_map_or (spec.is_of_kind param.now) (node_named nodes.now param.now.name.text) true }
+    ensures { result ≡ option_map_or (spec.is_of_kind param.now)
+        (node_named nodes.now param.now.name.text) true }
 {
     match nodes.find(param.name.text.as_str()) {
         Some(node) => node.class.text == param.kind.text,

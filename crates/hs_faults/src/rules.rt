@@ -24,8 +24,8 @@ pub struct SeenRules<'a> {
     pub count: usize,
 }
 
-/// Whether the rules of a text are free of faults over the metamodel, and else their first fault: rule
-/// by rule in written order, and in each rule pass by pass. Units aren't looked at.
+/// Whether the rules of a text are free of faults over the metamodel, and else their first fault:
+/// rule by rule in written order, and in each rule pass by pass. Units aren't looked at.
 pub fn check_rules(alloc: Global, meta: &Meta, syntax: &Syntax) -> Result<(), Failure<RuleFault>>
     ensures { Gives result (verdict (spec.faults_of_rules meta.now syntax.now.definitions)) }
 {
@@ -57,8 +57,10 @@ fn check_definition<'a>(
     seen: &mut SeenRules<'a>,
     definition: &'a Definition,
 ) -> Result<(), Failure<RuleFault>>
-    ensures fault { (before : List WrittenRule) → HasSeen seen.old before → Gives result (verdict (spec.faults_of_definition meta.now before definition.now)) }
-    ensures seen { (before : List WrittenRule) → HasSeen seen.old before → OnOk result (HasSeen seen.new (before ++ spec.as_rule definition.now)) }
+    ensures fault { (before : List WrittenRule) → HasSeen seen.old before
+        → Gives result (verdict (spec.faults_of_definition meta.now before definition.now)) }
+    ensures seen { (before : List WrittenRule) → HasSeen seen.old before
+        → OnOk result (HasSeen seen.new (before ++ spec.as_rule definition.now)) }
 {
     match definition {
         Definition::Rule(rule) => check_next(alloc, meta, seen, rule),
@@ -74,8 +76,10 @@ fn check_next<'a>(
     seen: &mut SeenRules<'a>,
     rule: &'a Rule,
 ) -> Result<(), Failure<RuleFault>>
-    ensures fault { (before : List WrittenRule) → HasSeen seen.old before → Gives result (verdict (spec.faults_of_rule meta.now before rule.now)) }
-    ensures seen { (before : List WrittenRule) → HasSeen seen.old before → OnOk result (HasSeen seen.new (before ++ rule.now ∷ [])) }
+    ensures fault { (before : List WrittenRule) → HasSeen seen.old before
+        → Gives result (verdict (spec.faults_of_rule meta.now before rule.now)) }
+    ensures seen { (before : List WrittenRule) → HasSeen seen.old before
+        → OnOk result (HasSeen seen.new (before ++ rule.now ∷ [])) }
 {
     demand(
         seen.count < MAX_RULES,

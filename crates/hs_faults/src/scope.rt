@@ -1,4 +1,4 @@
-//! What names stand for in the expressions of a rule, and the kinds of these expressions.
+//! What names denote in the expressions of a rule, and the kinds of these expressions.
 
 ghost use Rattle.std.specs.Prelude.{◌≡◌, is_some, IfOk};
 ghost use Rattle.hs_expr.specs.Steps.{GivesBy};
@@ -16,7 +16,7 @@ use hs_text::Mark;
 use hs_types::{FeatureNo, Meta};
 use std::alloc::Global;
 
-/// What names stand for in this part of a rule.
+/// What names denote in this block.
 #[derive(Clone, Copy)]
 pub struct RuleScope<'s, 'p, 'n> {
     pub meta: &'s Meta,
@@ -28,7 +28,8 @@ pub struct RuleScope<'s, 'p, 'n> {
 impl<'s, 'p, 'n> Scope for RuleScope<'s, 'p, 'n> {
     ghost use Rattle.hs_faults.specs.StatementFaults as spec;
 
-    ghost names = { λ scope. spec.rule_scope scope.meta.now scope.params.now scope.nodes.now scope.block };
+    ghost names = { λ scope.
+        spec.rule_scope scope.meta.now scope.params.now scope.nodes.now scope.block };
 
     fn param(&self, name: &str) -> Option<(u16, Kind)> {
         let param = self.params.find(name)?;
@@ -101,8 +102,11 @@ pub fn check_expr(
     names: &RuleScope<'_, '_, '_>,
     expr: &NameExpr,
 ) -> Result<Checked, Failure<RuleFault>>
-    ensures kind { GivesBy (λ found. found.kind) result (spec.kind_checked (spec.rule_scope names.now.meta.now names.now.params.now names.now.nodes.now names.now.block) expr.now) }
-    ensures depth { IfOk result (λ found. is_some found.expr ≡ spec.is_shallow (spec.rule_scope names.now.meta.now names.now.params.now names.now.nodes.now names.now.block) expr.now) }
+    ensures kind { GivesBy (λ found. found.kind) result
+        (spec.kind_checked (spec.rule_scope names.now.meta.now names.now.params.now
+        names.now.nodes.now names.now.block) expr.now) }
+    ensures depth { IfOk result (λ found. is_some found.expr ≡ spec.is_shallow (spec.rule_scope
+        names.now.meta.now names.now.params.now names.now.nodes.now names.now.block) expr.now) }
 {
     fault_as(
         check(alloc, expr, names),

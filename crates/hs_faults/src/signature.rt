@@ -30,8 +30,8 @@ impl<'a> Model for MeantParam<'a> {
     ghost view = { λ meant. meant.param.now };
 }
 
-/// The parameters of a rule or a unit, with a way to look them up by name, and what is asked of them
-/// at each call.
+/// The parameters of a rule or a unit, with a way to look them up by name, and what is asked of
+/// them at each call.
 #[derive(Drop)]
 pub struct Signature<'a> {
     name: &'a Name,
@@ -49,7 +49,8 @@ impl<'a> Model for Signature<'a> {
 
     ghost view = { λ signature. record { name = signature.name.now; params = signature.params } };
 
-    ghost invariant = { λ signature. signature.needed ≡ filter spec.takes_value (spec.meant_params signature.params) };
+    ghost invariant = { λ signature. signature.needed
+        ≡ filter spec.takes_value (spec.meant_params signature.params) };
 }
 
 impl<'a> Signature<'a> {
@@ -174,7 +175,8 @@ fn needed<'a>(alloc: Global, meant: &[MeantParam<'a>]) -> Result<List<MeantParam
 
 /// Adds the parameter, if something has to be given to it.
 fn add_needed<'a>(needed: &mut List<MeantParam<'a>>, param: &'a Param) -> Result<(), AllocError>
-    ensures { OnOk result (needed.new ≡ needed.old ++ (if spec.takes_value param.now then param.now ∷ [] else [])) }
+    ensures { OnOk result
+        (needed.new ≡ needed.old ++ (if spec.takes_value param.now then param.now ∷ [] else [])) }
 {
     if takes_value(param) {
         needed.push(MeantParam { param })?;
@@ -208,7 +210,8 @@ fn add_param<'a>(
     ensures known { (before : Sequence WrittenParam) → Knows (λ other. other.name) known.old before
         → OnOk result (Knows (λ other. other.name) known.new (before ++ param.now ∷ [])) }
     ensures meant { (before : Sequence WrittenParam) → Knows (λ other. other.name) known.old before
-        → OnOk result (meant.new ≡ meant.old ++ (if is_again (λ other. other.name) before param.now.name then [] else param.now ∷ [])) }
+        → OnOk result (meant.new ≡ meant.old ++ (if is_again (λ other. other.name) before
+        param.now.name then [] else param.now ∷ [])) }
 {
     if find_named(known, param.name.text.as_str()).is_none() {
         meant.push(MeantParam { param })?;

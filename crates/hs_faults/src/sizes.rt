@@ -30,7 +30,8 @@ pub fn check_sizes(
     flat: bool,
 ) -> Result<(), Failure<RuleFault>>
     ensures { Gives result (verdict (fault_if
-        (not (spec.sizes_fit rule.now.params (spec.blocks rule.now.items) nodes.now statements.now && flat))
+        (not (spec.sizes_fit rule.now.params (spec.blocks rule.now.items) nodes.now statements.now
+        && flat))
         (fault_at rule.now.name.span RuleFaultKind.Limit))) }
 {
     let blocks = blocks(alloc, rule.items.as_slice())?;
@@ -184,7 +185,8 @@ fn count_alike(
     target: &Name,
     reference: &Name,
 ) -> usize
-    ensures { result ≡ length (filter (spec.is_alike part source.now target.now reference.now) statements.now) }
+    ensures { result ≡ length
+        (filter (spec.is_alike part source.now target.now reference.now) statements.now) }
 {
     statements
         .iter()

@@ -44,9 +44,12 @@ fn check_set(
     attribute: &Name,
     value: &NameExpr,
 ) -> Result<bool, Failure<RuleFault>>
-    ensures fault { (slots : List spec.Slot) → HasSlots written.now slots → GivesBy (λ flat. tt) result
-        (spec.set_checked names.now.meta.now names.now.params.now names.now.nodes.now slots names.now.block node.now attribute.now value.now) }
-    ensures depth { IfOk result (λ flat. flat ≡ spec.is_shallow (spec.rule_scope names.now.meta.now names.now.params.now names.now.nodes.now names.now.block) value.now) }
+    ensures fault { (slots : List spec.Slot) → HasSlots written.now slots
+        → GivesBy (λ flat. tt) result
+        (spec.set_checked names.now.meta.now names.now.params.now names.now.nodes.now slots
+        names.now.block node.now attribute.now value.now) }
+    ensures depth { IfOk result (λ flat. flat ≡ spec.is_shallow (spec.rule_scope names.now.meta.now
+        names.now.params.now names.now.nodes.now names.now.block) value.now) }
 {
     let target = visible_node(names.nodes, names.block, node)?;
     demand(
@@ -82,8 +85,10 @@ fn check_where(
     test: &NameExpr,
 ) -> Result<bool, Failure<RuleFault>>
     ensures fault { GivesBy (λ flat. tt) result
-        (spec.where_checked names.now.meta.now names.now.params.now names.now.nodes.now names.now.block word test.now) }
-    ensures depth { IfOk result (λ flat. flat ≡ spec.is_shallow (spec.rule_scope names.now.meta.now names.now.params.now names.now.nodes.now names.now.block) test.now) }
+        (spec.where_checked names.now.meta.now names.now.params.now names.now.nodes.now
+        names.now.block word test.now) }
+    ensures depth { IfOk result (λ flat. flat ≡ spec.is_shallow (spec.rule_scope names.now.meta.now
+        names.now.params.now names.now.nodes.now names.now.block) test.now) }
 {
     let found = check_expr(alloc, names, test)?;
     demand(
@@ -93,19 +98,24 @@ fn check_where(
     Ok(found.expr.is_some())
 }
 
-/// Whether the statement's expression nests few, or its first fault. The slot that it sets joins those
-/// that are set.
+/// Whether the statement's expression nests few, or its first fault. The slot that it sets joins
+/// those that are set.
 fn check_statement<'a>(
     alloc: Global,
     names: &RuleScope<'_, '_, '_>,
     written: &mut Written<'a>,
     kind: &StatementKind<'a>,
 ) -> Result<bool, Failure<RuleFault>>
-    ensures fault { (slots : List spec.Slot) → HasSlots written.old slots → GivesBy (λ flat. tt) result
-        (spec.statement_checked names.now.meta.now names.now.params.now names.now.nodes.now slots (statement_at names.now.block kind.now)) }
+    ensures fault { (slots : List spec.Slot) → HasSlots written.old slots
+        → GivesBy (λ flat. tt) result
+        (spec.statement_checked names.now.meta.now names.now.params.now names.now.nodes.now slots
+        (statement_at names.now.block kind.now)) }
     ensures slots { (slots : List spec.Slot) → HasSlots written.old slots
-        → OnOk result (HasSlots written.new (slots ++ spec.slot_set_by (statement_at names.now.block kind.now))) }
-    ensures depth { IfOk result (λ flat. flat ≡ is_flat names.now.meta.now names.now.params.now names.now.nodes.now (statement_at names.now.block kind.now)) }
+        → OnOk result (HasSlots written.new
+        (slots ++ spec.slot_set_by (statement_at names.now.block kind.now))) }
+    ensures depth { IfOk result
+        (λ flat. flat ≡ is_flat names.now.meta.now names.now.params.now names.now.nodes.now
+        (statement_at names.now.block kind.now)) }
 {
     match kind {
         StatementKind::Edge {
@@ -146,8 +156,10 @@ pub fn check_statements(
     nodes: &NodeIndex<'_>,
     statements: &[Statement<'_>],
 ) -> Result<bool, Failure<RuleFault>>
-    ensures { GivesWhere (λ flat. flat ≡ list_all (is_flat meta.now (data_params params.now) nodes.now) statements.now) result
-        (verdict (spec.statement_faults meta.now (data_params params.now) nodes.now [] statements.now)) }
+    ensures { GivesWhere (λ flat. flat
+        ≡ list_all (is_flat meta.now (data_params params.now) nodes.now) statements.now) result
+        (verdict (spec.statement_faults meta.now (data_params params.now) nodes.now []
+        statements.now)) }
 {
     let given = data_params(alloc, params)?;
     let index = NameIndex::of(alloc, given.as_slice())?;
@@ -162,7 +174,8 @@ fn check_each_statement<'a>(
     nodes: &NodeIndex<'_>,
     statements: &[Statement<'a>],
 ) -> Result<bool, Failure<RuleFault>>
-    ensures { GivesWhere (λ flat. flat ≡ list_all (is_flat meta.now params.now nodes.now) statements.now) result
+    ensures { GivesWhere
+        (λ flat. flat ≡ list_all (is_flat meta.now params.now nodes.now) statements.now) result
         (verdict (spec.statement_faults meta.now params.now nodes.now [] statements.now)) }
 {
     let mut written = Written::new(alloc);

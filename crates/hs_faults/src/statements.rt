@@ -25,14 +25,14 @@ pub enum StatementKind<'a> {
         attribute: &'a Name,
         value: &'a NameExpr,
     },
-    /// The condition, and where the word `where` stands.
+    /// The condition, and the position of the word `where`.
     Where {
         word: Span,
         test: &'a NameExpr,
     },
 }
 
-/// An edge, a set or a condition, with the part of the rule that it stands in.
+/// An edge, a set or a condition, with its block.
 #[derive(Drop)]
 pub struct Statement<'a> {
     pub block: BlockId,
@@ -88,7 +88,8 @@ fn add_of_elements<'a>(
     block: BlockId,
     elements: &'a [Element],
 ) -> Result<(), AllocError>
-    ensures { OnOk result (all.new ≡ all.old ++ flat_map (spec.statement_of_element block Mark.Preserve) elements.now) }
+    ensures { OnOk result (all.new
+        ≡ all.old ++ flat_map (spec.statement_of_element block Mark.Preserve) elements.now) }
 {
     for element in elements {
         add_of_element(all, block, Mark::Preserve, element)?;
@@ -101,7 +102,8 @@ fn add_of_simples<'a>(
     block: BlockId,
     simples: &'a [Simple],
 ) -> Result<(), AllocError>
-    ensures { OnOk result (all.new ≡ all.old ++ flat_map (spec.statement_of_simple block) simples.now) }
+    ensures { OnOk result
+        (all.new ≡ all.old ++ flat_map (spec.statement_of_simple block) simples.now) }
 {
     for simple in simples {
         add_of_simple(all, block, simple)?;

@@ -58,8 +58,11 @@ fn check_definition<'a>(
     definition: &'a Definition,
 ) -> Result<(), Failure<RuleFault>>
     ensures fault { (before : List WrittenUnit) → HasSeenUnits seen.old before
-        → Gives result (verdict (spec.unit_faults_of_definition callees.now.meta (spec.rules_of callees.now.definitions) (spec.units_of callees.now.definitions) before definition.now)) }
-    ensures seen { (before : List WrittenUnit) → HasSeenUnits seen.old before → OnOk result (HasSeenUnits seen.new (before ++ spec.as_unit definition.now)) }
+        → Gives result (verdict
+        (spec.unit_faults_of_definition callees.now.meta (spec.rules_of callees.now.definitions)
+        (spec.units_of callees.now.definitions) before definition.now)) }
+    ensures seen { (before : List WrittenUnit) → HasSeenUnits seen.old before
+        → OnOk result (HasSeenUnits seen.new (before ++ spec.as_unit definition.now)) }
 {
     match definition {
         Definition::Rule(_) => Ok(()),
@@ -76,8 +79,11 @@ fn check_next<'a>(
     unit: &'a Unit,
 ) -> Result<(), Failure<RuleFault>>
     ensures fault { (before : List WrittenUnit) → HasSeenUnits seen.old before
-        → Gives result (verdict (spec.faults_of_unit callees.now.meta (spec.rules_of callees.now.definitions) (spec.units_of callees.now.definitions) before unit.now)) }
-    ensures seen { (before : List WrittenUnit) → HasSeenUnits seen.old before → OnOk result (HasSeenUnits seen.new (before ++ unit.now ∷ [])) }
+        → Gives result (verdict
+        (spec.faults_of_unit callees.now.meta (spec.rules_of callees.now.definitions)
+        (spec.units_of callees.now.definitions) before unit.now)) }
+    ensures seen { (before : List WrittenUnit) → HasSeenUnits seen.old before
+        → OnOk result (HasSeenUnits seen.new (before ++ unit.now ∷ [])) }
 {
     demand(
         seen.count < MAX_UNITS,
@@ -95,14 +101,16 @@ fn check_next<'a>(
     check_unit(alloc, callees, unit)
 }
 
-/// The first fault of what stands in a unit.
+/// The first fault of a unit's contents.
 #[tactic(auto, using(hs_expr::proofs::Verdicts::each_steps, crate::proofs::Failures::fails))]
 fn check_unit(
     alloc: Global,
     callees: &Callees<'_, '_>,
     unit: &Unit,
 ) -> Result<(), Failure<RuleFault>>
-    ensures { Gives result (verdict (spec.faults_in_unit callees.now.meta (spec.rules_of callees.now.definitions) (spec.units_of callees.now.definitions) unit.now)) }
+    ensures { Gives result
+        (verdict (spec.faults_in_unit callees.now.meta (spec.rules_of callees.now.definitions)
+        (spec.units_of callees.now.definitions) unit.now)) }
 {
     let own = unit_params_by_name(alloc, callees.meta(), unit.params.as_slice())?;
     check_body(alloc, callees, &own, &unit.body)?;
@@ -148,7 +156,8 @@ fn unit_params_by_name<'a>(
     meta: &Meta,
     params: &'a [Param],
 ) -> Result<ParamIndex<'a>, Failure<RuleFault>>
-    ensures { GivesWhere (λ index. index ≡ params.now) result (verdict (spec.faults_of_unit_params meta.now params.now)) }
+    ensures { GivesWhere (λ index. index ≡ params.now) result
+        (verdict (spec.faults_of_unit_params meta.now params.now)) }
 {
     let mut known = NamesSeen::new(alloc);
     for param in params {
@@ -176,7 +185,7 @@ fn check_unit_param<'a>(
     check_unit_kind(meta, param)
 }
 
-/// The first fault of what a parameter stands for.
+/// The first fault of a parameter's kind.
 fn check_unit_kind(meta: &Meta, param: &Param) -> Result<(), Failure<RuleFault>>
     ensures { Gives result (verdict (spec.unit_kind_faults meta.now param.now)) }
 {

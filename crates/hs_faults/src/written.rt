@@ -15,7 +15,8 @@ pub type Written<'a> = IndexMap<&'a str, List<&'a str>>;
 
 /// Whether the slot is set.
 pub fn is_set_before(written: &Written<'_>, node: &str, attribute: &str) -> bool
-    ensures { (slots : List Slot) → HasSlots written.now slots → result ≡ is_set_before slots node.now attribute.now }
+    ensures { (slots : List Slot) → HasSlots written.now slots
+        → result ≡ is_set_before slots node.now attribute.now }
 {
     match written.get(node) {
         Some(attributes) => is_among(attributes.as_slice(), attribute),
@@ -37,7 +38,8 @@ pub fn set_slot<'a>(
     attribute: &'a str,
 ) -> Result<(), AllocError>
     ensures { (slots : List Slot) → HasSlots written.old slots
-        → OnOk result (HasSlots written.new (slots ++ record { node = node.now; attribute = attribute.now } ∷ [])) }
+        → OnOk result (HasSlots written.new
+        (slots ++ record { node = node.now; attribute = attribute.now } ∷ [])) }
 {
     add_attribute(alloc, written, node, attribute)
 }
@@ -50,7 +52,8 @@ fn add_attribute<'a>(
     attribute: &'a str,
 ) -> Result<(), AllocError>
     ensures { OnOk result ((name : List ℕ) → attributes_in written.new name
-        ≡ cond (same_text node.now name) (attributes_in written.old node.now ++ attribute.entry ∷ []) (attributes_in written.old name)) }
+        ≡ cond (same_text node.now name) (attributes_in written.old node.now ++ attribute.entry
+        ∷ []) (attributes_in written.old name)) }
 {
     let mut attributes = take_attributes(alloc, written, node);
     attributes.push(attribute)?;

@@ -35,8 +35,8 @@ pub fn journals_go_on()
         ≡ after_entry set (after_journal set opening entries) entry }
 {}
 
-/// A written journal isn't both lawful and, for some cause, unlawful somewhere; and there is at most
-/// one first entry and one first cause by which it isn't lawful.
+/// A written journal isn't both lawful and, for some cause, unlawful somewhere; and there is at
+/// most one first entry and one first cause by which it isn't lawful.
 pub fn lawful_or_not()
     ensures one_cause { (set : RuleSet) (opening : Graph) (written : List (ℕ × Entry)) (p q : ℕ)
         (c d : Cause)

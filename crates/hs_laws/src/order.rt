@@ -24,8 +24,8 @@ pub fn order_is_total()
     ensures total { (x y : Extension) → IsEarlier x y ⊎ ((x ≡ y) ⊎ IsEarlier y x) }
 {}
 
-/// A valid match is determined by its kernel. A search for the first match, or for the next one after
-/// a match, has one answer, and so has one for extensions.
+/// A valid match is determined by its kernel. A search for the first match, or for the next one
+/// after a match, has one answer, and so has one for extensions.
 pub fn least_is_unique()
     ensures by_kernel { (m : Metamodel) (g : Graph) (rule : Rule) (args : Args) (f h : Match)
         → IsValid m g rule args f → IsValid m g rule args h → kernel_of f ≡ kernel_of h → f ≡ h }

@@ -79,7 +79,8 @@ fn each_once(alloc: Global, numbers: &[usize]) -> Result<List<usize>, AllocError
 /// Adds a number where it isn't there yet.
 #[tactic(auto, using(crate::proofs::Inheriting::further))]
 fn add_if_new(number: usize, numbers: &mut List<usize>) -> Result<(), AllocError>
-    ensures { (rest : List ℕ) → OnOk result (with_further numbers.new rest ≡ with_further numbers.old (number ∷ rest)) }
+    ensures { (rest : List ℕ)
+        → OnOk result (with_further numbers.new rest ≡ with_further numbers.old (number ∷ rest)) }
 {
     if has(numbers.as_slice(), number) {
         return Ok(());

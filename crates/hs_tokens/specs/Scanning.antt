@@ -52,7 +52,8 @@ known_or (Lexeme k n) e = Lexeme k n
 
 abbrev pub sign_at : ℕ → List ℕ → Element
 sign_at c [] = sign_element 1 (lookup signs (c ∷ []))
-sign_at c (d ∷ cs) = known_or (sign_element 2 (lookup signs (c ∷ d ∷ []))) (sign_element 1 (lookup signs (c ∷ [])))
+sign_at c (d ∷ cs) =
+    known_or (sign_element 2 (lookup signs (c ∷ d ∷ []))) (sign_element 1 (lookup signs (c ∷ [])))
 
 abbrev pub slash_at : List ℕ → Element
 slash_at [] = Unknown
@@ -62,7 +63,8 @@ slash_at (d ∷ cs) = if d == 47 then Skipped (2 + prefix_len is_in_line cs) els
 abbrev pub element_at : ℕ → List ℕ → Element
 element_at c cs =
     if is_blank c then Skipped 1
-    else if is_letter c then Lexeme (word_kind (take (1 + word_rest_len cs) (c ∷ cs))) (1 + word_rest_len cs)
+    else if is_letter c then Lexeme (word_kind (take (1 + word_rest_len cs) (c ∷ cs)))
+    (1 + word_rest_len cs)
     else if is_digit c then Integer (1 + prefix_len is_digit cs)
     else if c == 34 then text_element (closing_len false cs)
     else if c == 47 then slash_at cs
@@ -72,7 +74,8 @@ element_at c cs =
 pub record Advances (p : Position) (cs : List ℕ) (n : ℕ) (found : Option Token) : Type 0 where
   pub some : 0 < n
   pub within : n ≤ length cs
-  pub on : (ts : List Token) (e : Ending) → Lexes (after p (take n cs)) (drop n cs) ts e → Lexes p cs (option_to_list found ++ ts) e
+  pub on : (ts : List Token) (e : Ending) → Lexes (after p (take n cs)) (drop n cs) ts e
+      → Lexes p cs (option_to_list found ++ ts) e
 
 -- This fault is that of the characters from a position on, which begin with a wrong token.
 abbrev pub FaultIs : Position → FaultKind → List ℕ → Type 0

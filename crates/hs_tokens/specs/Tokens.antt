@@ -125,12 +125,12 @@ token_kind cs =
     else if is_word cs then unwrap_or (lookup reserved_words cs) kind.Name
     else unwrap_or (lookup signs cs) kind.Name
 
--- The number that digits stand for, after those that stand for n.
+-- The number that digits denote, after those that denote n.
 abbrev pub decimal_from : ℕ → List ℕ → ℕ
 decimal_from n [] = n
 decimal_from n (c ∷ cs) = decimal_from (10 * n + (c - 48)) cs
 
--- The number that digits stand for.
+-- The number that digits denote.
 abbrev pub decimal : List ℕ → ℕ
 decimal cs = decimal_from 0 cs
 

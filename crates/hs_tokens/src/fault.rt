@@ -1,3 +1,5 @@
+//! Faults of texts, with their words.
+
 ghost use Rattle.std.specs.Prelude.{◌≡◌};
 ghost use Rattle.hs_tokens.specs.FaultWords as spec;
 
@@ -8,7 +10,7 @@ pub enum FaultKind {
     Character,
     /// An integer above 9,223,372,036,854,775,807.
     Number,
-    /// The first token with which no text of the grammar goes on.
+    /// The first token with which no text of the grammar continues.
     Order,
     /// The text ends before the grammar does.
     End,

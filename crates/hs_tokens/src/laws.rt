@@ -14,14 +14,18 @@ pub fn each_is_lexed()
 
 /// Characters are these tokens and no others, up to one ending.
 pub fn lexed_once()
-    ensures { (p : Position) (cs : List ℕ) (ts us : List Token) (e g : Ending) → Lexes p cs ts e → Lexes p cs us g → (ts ≡ us) × (e ≡ g) }
+    ensures { (p : Position) (cs : List ℕ) (ts us : List Token) (e g : Ending) → Lexes p cs ts e
+        → Lexes p cs us g → (ts ≡ us) × (e ≡ g) }
 {}
 
 /// What a token is that begins with a letter, a digit or a quote: a word, an integer, a text.
 pub fn lexemes_begin()
-    ensures letter { (c : ℕ) (cs : List ℕ) → is_letter c ≡ true → is_lexeme (c ∷ cs) ≡ is_word (c ∷ cs) }
-    ensures digit { (c : ℕ) (cs : List ℕ) → is_digit c ≡ true → is_lexeme (c ∷ cs) ≡ is_integer (c ∷ cs) }
-    ensures quote { (c : ℕ) (cs : List ℕ) → (c == 34) ≡ true → is_lexeme (c ∷ cs) ≡ is_text (c ∷ cs) }
+    ensures letter { (c : ℕ) (cs : List ℕ) → is_letter c ≡ true
+        → is_lexeme (c ∷ cs) ≡ is_word (c ∷ cs) }
+    ensures digit { (c : ℕ) (cs : List ℕ) → is_digit c ≡ true
+        → is_lexeme (c ∷ cs) ≡ is_integer (c ∷ cs) }
+    ensures quote { (c : ℕ) (cs : List ℕ) → (c == 34) ≡ true
+        → is_lexeme (c ∷ cs) ≡ is_text (c ∷ cs) }
 {}
 
 /// A position moves on by as many characters as are read.

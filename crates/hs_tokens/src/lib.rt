@@ -1,8 +1,8 @@
 //! The tokens of rule and unit text: names, literals, reserved words and signs, each with its span.
 //!
 //! [`tokenize`] reads characters as tokens, the longest at each position, or reports the first one
-//! that is wrong. `specs/Tokens.antt` defines what a token is, and `specs/Lexing.antt` which tokens a
-//! text is.
+//! that is wrong. `specs/Tokens.antt` defines what a token is, and `specs/Lexing.antt` which tokens
+//! a text is.
 #![tactic(auto)]
 
 mod fault;

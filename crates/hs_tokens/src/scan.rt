@@ -1,3 +1,5 @@
+//! The scanner: the tokens of a text.
+
 ghost use Rattle.std.specs.Prelude.{◌≡◌, ℕ, List, [], ◌∷◌, ◌==◌, ◌<◌, ◌≤◌, ◌^◌, ◌+◌, IsTrue, false, nat_eq, length, map, IfOk, IfErr, OnOk, ◌++◌, option_to_list, IfSome, MatchOption, MatchResult, pos};
 ghost use Rattle.std.specs.List.{prefix_len};
 ghost use Rattle.std.specs.Cmp.Lexicographic.{pointwise};
@@ -60,7 +62,7 @@ fn is_in_line_char(c: char) -> bool
     c != '\n'
 }
 
-// How many letters and digits are in front.
+/// How many letters and digits are in front.
 fn word_part_count(chars: &[char]) -> usize
     ensures within { result ≤ length chars.now }
     ensures count { result ≡ prefix_len is_word_part chars.now }
@@ -68,8 +70,8 @@ fn word_part_count(chars: &[char]) -> usize
     chars.iter().take_while(|c| is_word_part_char(**c)).count()
 }
 
-// How many letters and digits after its first letter belong to a word: no more are looked at, however
-// many follow.
+/// How many letters and digits after its first letter belong to a word: no more are looked at,
+/// however many follow.
 #[tactic(auto, using(crate::proofs::Longest::run_within))]
 fn word_rest_count(chars: &[char]) -> usize
     ensures within { result ≤ length chars.now }
@@ -85,7 +87,7 @@ fn digit_count(chars: &[char]) -> usize
     chars.iter().take_while(|c| is_digit_char(**c)).count()
 }
 
-// How many characters are before the end of the line.
+/// How many characters are before the end of the line.
 fn line_len(chars: &[char]) -> usize
     ensures within { result ≤ length chars.now }
     ensures count { result ≡ prefix_len is_in_line chars.now }
@@ -107,7 +109,7 @@ fn spells(word: &[char], letters: &[u8]) -> bool
     true
 }
 
-// How many characters go on with a text that is open, up to and with its last quote.
+/// How many characters go on with a text that is open, up to and with its last quote.
 fn text_len(chars: &[char]) -> Option<usize>
     ensures within { IfSome result (λ n. n ≤ length chars.now) }
     ensures len { result ≡ closing_len false chars.now }
@@ -186,7 +188,7 @@ const SIGNS: [(&[u8], Kind); 19] = [
     (b"*", Kind::Times),
 ];
 
-// The kind beside a spelling in a table.
+/// The kind beside a spelling in a table.
 fn lookup(mut table: &[(&[u8], Kind)], chars: &[char]) -> Option<Kind>
     ensures { result ≡ spec.lookup (map (λ entry. (entry.0.now, entry.1)) table.entry.now) chars.now }
 {
@@ -199,7 +201,7 @@ fn lookup(mut table: &[(&[u8], Kind)], chars: &[char]) -> Option<Kind>
     None
 }
 
-// The kind of a word: that of a reserved word, or a name.
+/// The kind of a word: that of a reserved word, or a name.
 fn kind_of_word(word: &[char]) -> Kind
     ensures { result ≡ word_kind word.now }
 {
@@ -215,7 +217,7 @@ fn sign(chars: &[char]) -> Option<Kind>
     lookup(&SIGNS, chars)
 }
 
-// The sign in front, the longest one.
+/// The sign in front, the longest one.
 fn sign_element(chars: &[char]) -> Element
     requires { 0 < length chars.now }
     ensures { (c : ℕ) (cs : List ℕ) → chars.now ≡ c ∷ cs → result ≡ sign_at c cs }
@@ -231,7 +233,7 @@ fn sign_element(chars: &[char]) -> Element
     }
 }
 
-// What begins with the first character; the others follow it.
+/// What begins with the first character; the others follow it.
 fn element_in_front(first: char, chars: &[char]) -> Element
     requires { (cs : List ℕ) × (chars.now ≡ first ∷ cs) }
     ensures { (cs : List ℕ) → chars.now ≡ first ∷ cs → result ≡ element_at first cs }
@@ -265,7 +267,7 @@ fn element_in_front(first: char, chars: &[char]) -> Element
     sign_element(chars)
 }
 
-// A comment, if another slash follows the first one.
+/// A comment, if another slash follows the first one.
 fn slash_element(rest: &[char]) -> Element
     ensures { result ≡ slash_at rest.now }
 {
@@ -277,9 +279,10 @@ fn slash_element(rest: &[char]) -> Element
 
 const LIMIT: u64 = 9223372036854775808;
 
-// The number that digits stand for, if it is below 2 ^ 63.
+/// The number that digits denote, if it is below 2 ^ 63.
 fn number(digits: &[char]) -> Option<i64>
-    ensures { MatchOption result (2 ^ 63 ≤ decimal digits.now) (λ n. (n ≡ pos (decimal digits.now)) × (decimal digits.now < 2 ^ 63)) }
+    ensures { MatchOption result (2 ^ 63 ≤ decimal digits.now)
+        (λ n. (n ≡ pos (decimal digits.now)) × (decimal digits.now < 2 ^ 63)) }
 {
     let mut n: u64 = 0;
     for c in digits {
@@ -292,7 +295,7 @@ fn number(digits: &[char]) -> Option<i64>
     Some(n as i64)
 }
 
-// The position after the character at this one.
+/// The position after the character at this one.
 fn next_position(position: Position, c: char) -> Position
     requires index { position.index + 1 < 2 ^ 64 }
     requires line { position.line + 1 < 2 ^ 64 }
@@ -315,7 +318,7 @@ fn next_position(position: Position, c: char) -> Position
     }
 }
 
-// The position after some characters.
+/// The position after some characters.
 fn position_after(position: Position, chars: &[char]) -> Position
     requires index { position.index + length chars.now < 2 ^ 64 }
     requires line { position.line + length chars.now < 2 ^ 64 }
@@ -329,10 +332,19 @@ fn position_after(position: Position, chars: &[char]) -> Position
     position
 }
 
-// The token of this many characters, at this position.
+/// The token of this many characters, at this position.
 fn make_token(position: Position, kind: Kind, number: i64, len: usize) -> Token
     requires { position.index + len < 2 ^ 64 }
-    ensures { result ≡ record { kind = kind; number = number; span = record { start = position.index; end = position.index + len; line = position.line; column = position.column } } }
+    ensures { result ≡ record {
+      kind = kind;
+      number = number;
+      span = record {
+        start = position.index;
+        end = position.index + len;
+        line = position.line;
+        column = position.column;
+      };
+    } }
 {
     Token {
         kind,
@@ -346,8 +358,8 @@ fn make_token(position: Position, kind: Kind, number: i64, len: usize) -> Token
     }
 }
 
-// Reads what begins at a position: how many characters it takes, and the token that they are, if they
-// do not just separate.
+/// Reads what begins at a position: how many characters it takes, and the token that they are, if
+/// they do not just separate.
 fn read(position: Position, chars: &[char]) -> Result<(usize, Option<Token>), FaultKind>
     requires some { 0 < length chars.now }
     requires index { position.index + length chars.now < 2 ^ 64 }
@@ -365,7 +377,7 @@ fn read(position: Position, chars: &[char]) -> Result<(usize, Option<Token>), Fa
     }
 }
 
-// Puts the token at the end, where there is one.
+/// Puts the token at the end, where there is one.
 fn keep(tokens: &mut Vec<Token>, found: Option<Token>) -> Result<(), AllocError>
     ensures { OnOk result (tokens.new.items ≡ tokens.old.items ++ option_to_list found) }
 {

@@ -1,3 +1,5 @@
+//! Tokens and positions.
+
 ghost use Rattle.std.specs.Prelude.{◌≡◌};
 
 use crate::{FaultKind, TextFault};
