@@ -46,7 +46,8 @@ pub fn block_meant(
     before: &[PatternNode],
     part: BlockId,
 ) -> Result<Block, AllocError>
-    ensures { IfOk result (λ block. block ≡ spec.block_meant meta.now contents.now before.now part) }
+    ensures { IfOk result
+        (λ block. block ≡ spec.block_meant meta.now contents.now before.now part) }
 {
     let nodes = nodes_in(alloc, meta, contents.nodes.items(), part)?;
     block_with(alloc, meta, contents, before, nodes, part)
@@ -90,7 +91,8 @@ pub fn multi_meant(
     kernel: &[PatternNode],
     part: BlockId,
 ) -> Result<Multi, AllocError>
-    ensures { IfOk result (λ multi. multi ≡ spec.multi_meant meta.now contents.now kernel.now part) }
+    ensures { IfOk result
+        (λ multi. multi ≡ spec.multi_meant meta.now contents.now kernel.now part) }
 {
     let block = block_meant(alloc, meta, contents, kernel, part)?;
     multi_of(alloc, meta, kernel, block)

@@ -214,7 +214,8 @@ fn rule_around(
     contents: &RuleContents<'_>,
     kernel: Block,
 ) -> Result<Rule, AllocError>
-    ensures { IfOk result (λ meant. meant ≡ spec.rule_around meta.now rule.now contents.now kernel) }
+    ensures { IfOk result
+        (λ meant. meant ≡ spec.rule_around meta.now rule.now contents.now kernel) }
 {
     let multis = multis_meant(alloc, meta, rule, contents, kernel.nodes.as_slice())?;
     rule_with(alloc, meta, rule, contents, kernel, multis)

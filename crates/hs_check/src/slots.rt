@@ -39,7 +39,8 @@ fn add_reads_of_wheres(reads: &mut List<SlotRead>, wheres: &[Expr]) -> Result<()
 }
 
 fn add_reads_of_sets(reads: &mut List<SlotRead>, sets: &[SetItem]) -> Result<(), AllocError>
-    ensures { OnOk result (reads.new ≡ reads.old ++ flat_map (λ item. reads_of item.value) sets.now) }
+    ensures { OnOk result
+        (reads.new ≡ reads.old ++ flat_map (λ item. reads_of item.value) sets.now) }
 {
     for item in sets {
         add_reads(reads, &item.value)?;

@@ -198,7 +198,8 @@ fn unit_meant(
 }
 
 fn rule_names(alloc: Global, definitions: &[Definition]) -> Result<List<Text>, AllocError>
-    ensures { IfOk result (λ names. names ≡ map (λ rule. rule.name.text) (rules_of definitions.now)) }
+    ensures { IfOk result
+        (λ names. names ≡ map (λ rule. rule.name.text) (rules_of definitions.now)) }
 {
     let mut names = List::new(alloc);
     for definition in definitions {
@@ -210,7 +211,8 @@ fn rule_names(alloc: Global, definitions: &[Definition]) -> Result<List<Text>, A
 }
 
 fn unit_names(alloc: Global, definitions: &[Definition]) -> Result<List<Text>, AllocError>
-    ensures { IfOk result (λ names. names ≡ map (λ unit. unit.name.text) (units_of definitions.now)) }
+    ensures { IfOk result
+        (λ names. names ≡ map (λ unit. unit.name.text) (units_of definitions.now)) }
 {
     let mut names = List::new(alloc);
     for definition in definitions {

@@ -86,7 +86,8 @@ fn data_fits(own: &ParamIndex<'_>, wanted: Kind, value: &Atom) -> bool
 }
 
 fn names_data(own: &ParamIndex<'_>, wanted: Kind, name: &Text) -> bool
-    ensures { result ≡ option_map_or (spec.is_data wanted) (spec.first_param own.now name.now) false }
+    ensures { result ≡ option_map_or (spec.is_data wanted) (spec.first_param own.now name.now)
+        false }
 {
     match own.find(name.as_str()) {
         Some(param) => is_data(wanted, param),

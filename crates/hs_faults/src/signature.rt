@@ -108,7 +108,8 @@ fn add_rules<'a>(
     signatures: &mut List<Signature<'a>>,
     definitions: &'a [Definition],
 ) -> Result<(), AllocError>
-    ensures { OnOk result (signatures.new ≡ signatures.old ++ flat_map rule_params definitions.now) }
+    ensures { OnOk result
+        (signatures.new ≡ signatures.old ++ flat_map rule_params definitions.now) }
 {
     for definition in definitions {
         add_rule(alloc, signatures, definition)?;
@@ -138,7 +139,8 @@ fn add_units<'a>(
     signatures: &mut List<Signature<'a>>,
     definitions: &'a [Definition],
 ) -> Result<(), AllocError>
-    ensures { OnOk result (signatures.new ≡ signatures.old ++ flat_map unit_params definitions.now) }
+    ensures { OnOk result
+        (signatures.new ≡ signatures.old ++ flat_map unit_params definitions.now) }
 {
     for definition in definitions {
         add_unit(alloc, signatures, definition)?;

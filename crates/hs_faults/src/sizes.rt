@@ -46,7 +46,8 @@ fn keeps_limits(
     statements: &[Statement<'_>],
     flat: bool,
 ) -> bool
-    ensures { result ≡ (spec.sizes_fit rule.now.params blocks.now nodes.now statements.now && flat) }
+    ensures { result ≡ (spec.sizes_fit rule.now.params blocks.now nodes.now statements.now
+        && flat) }
 {
     sizes_fit(rule.params.as_slice(), blocks, nodes, statements) && flat
 }

@@ -71,8 +71,8 @@ fn add_links(
 ) -> Result<(), AllocError>
     ensures { (names : List (List ℕ))
         → ((name : List ℕ) → get_by_text numbers.now name ≡ place_of names name)
-        → OnOk result (links.new ≡ links.old ++ spec.links_of meta.now names source class refs.now)
-            }
+        → OnOk result (links.new
+        ≡ links.old ++ spec.links_of meta.now names source class refs.now) }
 {
     for feature in meta.features_of(class) {
         add_targets(

@@ -66,8 +66,8 @@ pub fn read_input(alloc: Global, bytes: &[u8]) -> Result<Input, Failure<Refusal>
 
 fn bundle_of(alloc: Global, bytes: &[u8]) -> Result<Bundle, Failure<Refusal>>
     ensures read { IfOk result (λ bundle. IsBundleAnswer bytes.now (Ok (contents bundle))) }
-    ensures sound { IfOk result (λ bundle. IsSound (arc_value bundle.graph.meta) bundle.graph.graph)
-        }
+    ensures sound { IfOk result
+        (λ bundle. IsSound (arc_value bundle.graph.meta) bundle.graph.graph) }
     ensures refused { Tells bytes.now result }
 {
     fault_as(

@@ -44,8 +44,8 @@ pub struct Bundle {
 /// the bundle's own form, then the metamodel, then the graph. What is read is sound.
 pub fn read_bundle(alloc: Global, bytes: &[u8]) -> Result<Bundle, Failure<BundleFault>>
     ensures answers { spec.Answers bytes.now result }
-    ensures sound { IfOk result (λ bundle. IsSound (arc_value bundle.graph.meta) bundle.graph.graph)
-        }
+    ensures sound { IfOk result
+        (λ bundle. IsSound (arc_value bundle.graph.meta) bundle.graph.graph) }
 {
     models_are_sound();
     let value = json_of(alloc, bytes)?;

@@ -78,8 +78,8 @@ fn steps_text(alloc: Global, reversed: &[Step]) -> Result<String, AllocError>
 }
 
 fn add_step(text: &mut String, step: &Step) -> Result<(), AllocError>
-    ensures { OnOk result (string_bytes text.new ≡ string_bytes text.old ++ spec.step_text step.now)
-        }
+    ensures { OnOk result
+        (string_bytes text.new ≡ string_bytes text.old ++ spec.step_text step.now) }
 {
     text.push('/')?;
     match step {

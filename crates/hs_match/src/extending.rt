@@ -26,6 +26,5 @@ pub struct Extending<'a> {
     ghost edges_counted: { edge_count ≡ length (left_edges edges.now) },
     ghost few: { node_count + edge_count ≤ 28 },
     ghost images_differ: { Differ base_images.now } by { Differ-prop base_images.now },
-    ghost edge_images_differ: { Differ base_edge_images.now } by
-        { Differ-prop base_edge_images.now },
+    ghost edge_images_differ: { Differ base_edge_images.now } by { Differ-prop base_edge_images.now },
 }

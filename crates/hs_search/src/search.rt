@@ -42,8 +42,8 @@ pub fn next_after<C: Choice>(choice: &C, after: &[u32]) -> Option<Numbers>
 /// Whether there is a choice.
 pub fn exists<C: Choice>(choice: &C) -> bool
     requires room { C.size choice.now ≤ 28 }
-    ensures { IsTrue result ↔ ((xs : List ℕ) × IsChoice (C.size choice.now) (C.Good choice.now) xs)
-        }
+    ensures { IsTrue result ↔
+        ((xs : List ℕ) × IsChoice (C.size choice.now) (C.Good choice.now) xs) }
 {
     least(choice).is_some()
 }

@@ -148,7 +148,7 @@ builder_after source action.Rule b =
       items = [];
       definitions = b.definitions ++ definition.Rule
           (record { name = name_of source (last_token b); params = b.params; items = b.items })
-              ∷ [];
+          ∷ [];
     }
 builder_after source action.Param b =
     record b {

@@ -183,8 +183,8 @@ fn finish(
     stack: &mut Stack<Symbol>,
     builder: &mut Builder,
 ) -> Result<bool, AllocError>
-    ensures ended { IfOk result (λ b. OnTrue b (IsEnd source.now stack.old builder.old builder.new))
-        }
+    ensures ended { IfOk result
+        (λ b. OnTrue b (IsEnd source.now stack.old builder.old builder.new)) }
     ensures cut_off { IfOk result (λ b. OnFalse b (IsCutOff source.now stack.old builder.old)) }
 {
     'steps: while let Some(symbol) = stack.pop() {

@@ -13,8 +13,8 @@ use hs_expr::{Name, NameExpr, Text};
 use std::alloc::{AllocError, Global};
 
 fn write_element(out: &mut String, element: &Element) -> Result<(), AllocError>
-    ensures { OnOk result (string_bytes out.new ≡ string_bytes out.old ++ element_text element.now)
-        }
+    ensures { OnOk result
+        (string_bytes out.new ≡ string_bytes out.old ++ element_text element.now) }
 {
     match element {
         Element::Node { name, class } => write_node(out, name, class),
@@ -44,8 +44,8 @@ fn write_node(out: &mut String, name: &Name, class: &Name) -> Result<(), AllocEr
 }
 
 fn write_element_line(out: &mut String, element: &Element) -> Result<(), AllocError>
-    ensures { OnOk result (string_bytes out.new ≡ string_bytes out.old ++ element_line element.now)
-        }
+    ensures { OnOk result
+        (string_bytes out.new ≡ string_bytes out.old ++ element_line element.now) }
 {
     out.push_str("    ")?;
     write_element(out, element)?;

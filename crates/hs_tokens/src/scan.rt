@@ -190,7 +190,8 @@ const SIGNS: [(&[u8], Kind); 19] = [
 
 /// The kind beside a spelling in a table.
 fn lookup(mut table: &[(&[u8], Kind)], chars: &[char]) -> Option<Kind>
-    ensures { result ≡ spec.lookup (map (λ entry. (entry.0.now, entry.1)) table.entry.now) chars.now }
+    ensures { result ≡ spec.lookup (map (λ entry. (entry.0.now, entry.1)) table.entry.now)
+        chars.now }
 {
     while let [entry, rest @ ..] = table {
         if spells(chars, entry.0) {
