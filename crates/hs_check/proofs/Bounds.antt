@@ -14,7 +14,7 @@ use Rattle.hs_faults.specs.declared.nodes.BlockId.TheVariants as home
 use Rattle.hs_faults.specs.Depths.{is_flat}
 use Rattle.hs_faults.specs.Sizes.{blocks, has_few, has_few_alike, is_edge_of, is_multi, is_pattern, sizes_fit}
 use Rattle.hs_faults.specs.Nodes.{declared_nodes, written_nodes}
-use Rattle.hs_faults.specs.Numbers.{count_in, data_params, number_of_node, number_at, numbered, with_number}
+use Rattle.hs_faults.specs.Numbers.{count_in, data_params, number_of_node, number_at, numbered_nodes, with_number}
 use Rattle.hs_faults.specs.ParamNodes.{is_kernel}
 use Rattle.hs_faults.specs.Statements.{Statement, statements}
 use Rattle.hs_faults.specs.StatementFaults.{same_block}
@@ -103,13 +103,13 @@ at_number g n (node ∷ ds) (suc k) d at =
     let rest = at_number g (n + 1) ds k d at in
     (rest.0, ap (λ i. with_number (g i rest.0) rest.0) (let e : n + suc k ≡ n + 1 + k = omega arith in e) ∙ rest.1)
 
-are_numbered : (ds : List DeclaredNode) → AreNumbered (numbered ds)
+are_numbered : (ds : List DeclaredNode) → AreNumbered (numbered_nodes ds)
 are_numbered ds k d at =
     let g : ℕ → DeclaredNode → ℕ = λ i node. number_of_node ds (take i ds) node in
     let is = at_number g 0 ds k d at in
     ap (λ (x : DeclaredNode). x.number) (sym is.1) ∙ ap (λ i. g i is.0) (zero-add k)
     ∙ ap₂ (λ (a b : ℕ). number_at ((if is_kernel is.0.block then 0 else a) + b)) (sym (counts_kept g home.Kernel 0 ds)) (sym (counts_before g is.0.block 0 ds k))
-    ∙ ap (λ (x : DeclaredNode). number_of_node (numbered ds) (take k (numbered ds)) x) is.1
+    ∙ ap (λ (x : DeclaredNode). number_of_node (numbered_nodes ds) (take k (numbered_nodes ds)) x) is.1
 
 pub kernel_opens : (m : Metamodel) (rule : Rule) → Clean m rule → Opens m (declared_nodes rule.items) home.Kernel []
 kernel_opens m rule clean =

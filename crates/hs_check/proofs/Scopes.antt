@@ -31,7 +31,7 @@ use Rattle.hs_faults.specs.Names.{as_attribute, class_attribute, data_named, fea
 use Rattle.hs_faults.specs.Nodes.{declared_nodes}
 use Rattle.hs_faults.specs.Numbers.{data_param, data_params, number_at}
 use Rattle.hs_faults.specs.ParamNodes.{data_faults, is_out, object_faults}
-use Rattle.hs_faults.specs.StatementFaults.{attribute_of, can_read, hidden_read, is_visible, readable, rule_scope, visible_node}
+use Rattle.hs_faults.specs.StatementFaults.{attribute_of, can_read, hidden_read, is_visible, node_read, rule_scope, visible_node}
 use Rattle.hs_check.specs.Elements.{nodes_in}
 use Rattle.hs_check.specs.Parameters.{class_meant, direction_meant, param_meant, params_meant}
 use Rattle.hs_check.proofs.Bounds.{is_few}
@@ -98,7 +98,7 @@ record IsRead (part : BlockId) (d : DeclaredNode) (n : ℕ) : Type 0 where
   visible : is_visible part d ≡ true
   left : is_left (mark_meant d.mark) ≡ true
 
-is_read : (part : BlockId) (d : DeclaredNode) (n : ℕ) → readable part d ≡ Some (n, true) → IsRead part d n
+is_read : (part : BlockId) (d : DeclaredNode) (n : ℕ) → node_read part d ≡ Some (n, true) → IsRead part d n
 is_read part d n e =
     let l = option_map-some (λ (l : Bool). (d.number, l)) (can_read part d) (n, true) e in
     let may = go (is_visible part d) (l.1 ∙ ap (λ (r : ℕ × Bool). Some r.1) l.2) in
@@ -133,7 +133,7 @@ agree m rule clean part before opens = record {
       let kind = params_agree m rule clean (before ++ nodes_in m (declared_nodes rule.items) part) name d.0 d.1 in
       subst (λ (r : ℕ × Kind). (scope_with m (params_meant m rule.params) (before ++ nodes_in m (declared_nodes rule.items) part)).param r.0 ≡ Some r.1) d.2 kind;
   slots = λ owner name n a k node attribute.
-      let d = came (node_named (declared_nodes rule.items) owner) (readable part) (n, true) node in
+      let d = came (node_named (declared_nodes rule.items) owner) (node_read part) (n, true) node in
       let of_node : attribute_of m d.0 name ≡ Some (a, k) = sym (ap (option_and_then (λ (x : DeclaredNode). attribute_of m x name)) d.1) ∙ attribute in
       slots_agree m (declared_nodes rule.items) part before opens owner name d.0 n (a, k) d.1 (is_read part d.0 n d.2) of_node;
 }

@@ -13,7 +13,7 @@ use Rattle.hs_text.specs.declared.syntax.Simple.TheVariants as simple
 use Rattle.hs_faults.specs.declared.nodes.DeclaredNode.{DeclaredNode}
 use Rattle.hs_faults.specs.declared.nodes.BlockId.{BlockId}
 use Rattle.hs_faults.specs.declared.nodes.BlockId.TheVariants.{Kernel, Pattern, Multi}
-use Rattle.hs_faults.specs.Numbers.{numbered}
+use Rattle.hs_faults.specs.Numbers.{numbered_nodes}
 
 -- The node that an element declares, if it declares one.
 abbrev pub node_of_element : BlockId → Mark → Element → List DeclaredNode
@@ -34,10 +34,10 @@ nodes_of_item i (item.Forbid elements) = flat_map (node_of_element (Pattern i) P
 nodes_of_item i (item.Require elements) = flat_map (node_of_element (Pattern i) Preserve) elements
 nodes_of_item i (item.Multi simples) = flat_map (node_of_simple (Multi i)) simples
 
--- All nodes of the rule that has these items, in written order, and not numbered yet.
+-- All nodes of the rule that has these items, in written order, and not numbered_nodes yet.
 abbrev pub written_nodes : List Item → List DeclaredNode
 written_nodes items = each nodes_of_item items
 
 -- The same nodes with their numbers.
 abbrev pub declared_nodes : List Item → List DeclaredNode
-declared_nodes items = numbered (written_nodes items)
+declared_nodes items = numbered_nodes (written_nodes items)

@@ -13,7 +13,7 @@ use Rattle.hs_faults.specs.Names.{data_named}
 use Rattle.hs_faults.specs.ParamNodes.{is_kernel}
 use Rattle.hs_faults.specs.StatementFaults.{same_block}
 
--- Numbers go up to 65,535, and no rule within the limits has as many parameters or nodes.
+-- Numbers go up to 65,535. A rule with more parameters or nodes is beyond the limits of rules.
 abbrev pub number_at : ℕ → ℕ
 number_at place = min place 65535
 
@@ -48,8 +48,8 @@ with_number n node = record {
   number = n;
 }
 
-abbrev pub numbered : List DeclaredNode → List DeclaredNode
-numbered nodes =
+abbrev pub numbered_nodes : List DeclaredNode → List DeclaredNode
+numbered_nodes nodes =
     each (λ i node. with_number (number_of_node nodes (take i nodes) node) node ∷ []) nodes
 
 -- The map has the counts of these nodes, as far as they are numbers.

@@ -111,14 +111,14 @@ can_read block node =
     if is_visible block node then Some (is_left (mark_meant node.mark)) else hidden_read node.block
 
 -- The node's number, and whether it can be read.
-abbrev pub readable : BlockId → DeclaredNode → Option (ℕ × Bool)
-readable block node = option_map (λ left. (node.number, left)) (can_read block node)
+abbrev pub node_read : BlockId → DeclaredNode → Option (ℕ × Bool)
+node_read block node = option_map (λ left. (node.number, left)) (can_read block node)
 
 -- What the names of an expression denote in this block.
 abbrev pub rule_scope : Metamodel → List DataParam → List DeclaredNode → BlockId → Names
 rule_scope m params nodes block = record {
   param = data_param_named params;
-  node = λ name. option_and_then (readable block) (node_named nodes name);
+  node = λ name. option_and_then (node_read block) (node_named nodes name);
   attribute =
       λ owner name. option_and_then (λ node. attribute_of m node name) (node_named nodes owner);
 }

@@ -4,7 +4,7 @@ ghost use Rattle.std.specs.Prelude.{◌≡◌, ◌++◌, IfOk, OnOk};
 ghost use Rattle.std.specs.List.{flat_map};
 ghost use Rattle.hs_faults.specs.Nodes as spec;
 
-use crate::numbers::numbered;
+use crate::numbers::numbered_nodes;
 use hs_expr::{List, Name};
 use hs_text::{Element, Item, Mark, Simple};
 use std::alloc::{AllocError, Global};
@@ -35,10 +35,10 @@ pub fn declared_nodes(alloc: Global, items: &[Item]) -> Result<List<DeclaredNode
     ensures { IfOk result (λ nodes. nodes ≡ spec.declared_nodes items.now) }
 {
     let nodes = written_nodes(alloc, items)?;
-    numbered(alloc, nodes)
+    numbered_nodes(alloc, nodes)
 }
 
-/// All nodes that the items declare, not numbered yet.
+/// All nodes that the items declare, not numbered_nodes yet.
 fn written_nodes(alloc: Global, items: &[Item]) -> Result<List<DeclaredNode>, AllocError>
     ensures { IfOk result (λ nodes. nodes ≡ spec.written_nodes items.now) }
 {

@@ -68,8 +68,11 @@ fn add_numbered(
 }
 
 /// The nodes with their numbers.
-pub fn numbered(alloc: Global, nodes: List<DeclaredNode>) -> Result<List<DeclaredNode>, AllocError>
-    ensures { IfOk result (λ all. all ≡ spec.numbered nodes) }
+pub fn numbered_nodes(
+    alloc: Global,
+    nodes: List<DeclaredNode>,
+) -> Result<List<DeclaredNode>, AllocError>
+    ensures { IfOk result (λ all. all ≡ spec.numbered_nodes nodes) }
 {
     let kernel = number_at(count_in(nodes.as_slice(), BlockId::Kernel));
     let mut counts = Counts::new(alloc);

@@ -38,7 +38,7 @@ impl<'s, 'p, 'n> Scope for RuleScope<'s, 'p, 'n> {
 
     fn node(&self, name: &str) -> Option<(u16, bool)> {
         let node = self.nodes.find(name)?;
-        readable(self.block, node)
+        node_read(self.block, node)
     }
 
     fn attribute(&self, node: &str, name: &str) -> Option<(u16, Kind)> {
@@ -56,8 +56,8 @@ pub fn attribute_of(meta: &Meta, node: &DeclaredNode, name: &str) -> Option<(Fea
 }
 
 /// The node's number, and whether it can be read from this part of the rule.
-fn readable(block: BlockId, node: &DeclaredNode) -> Option<(u16, bool)>
-    ensures { result ≡ spec.readable block node.now }
+fn node_read(block: BlockId, node: &DeclaredNode) -> Option<(u16, bool)>
+    ensures { result ≡ spec.node_read block node.now }
 {
     let left = can_read(block, node)?;
     Some((node.number, left))

@@ -4,7 +4,7 @@ use Rattle.std.specs.Vec.Iter.{into_iter_items}
 use Rattle.hs_faults.specs.Numbers.{HasCounts, number_of_node, with_number}
 use Rattle.hs_faults.specs.declared.nodes.DeclaredNode.{DeclaredNode}
 use Rattle.hs_faults.proofs.Numbering.{made_more, next_node}
-use Rattle.hs_faults.proofs.numbers.numbered.Goals as goal
+use Rattle.hs_faults.proofs.numbers.numbered_nodes.Goals as goal
 
 pub loop-node-preserved : goal.loop-node-preserved
 loop-node-preserved c =
