@@ -1,12 +1,20 @@
--- Metamodels and graphs that show what the definitions refuse.
-use Rattle.std.specs.Prelude.{ℕ, List, [], ◌∷◌, true, false, codes}
+-- Metamodels, graphs, rules and plans that show what the definitions refuse.
+use Rattle.std.specs.Prelude.{ℕ, ℤ, pos, List, [], ◌∷◌, true, false, codes}
+use Rattle.hs_expr.specs.declared.value.Value.TheVariants as value
 use Rattle.hs_types.specs.declared.graph.Graph.{Graph}
 use Rattle.hs_types.specs.declared.graph.Object.{Object}
+use Rattle.hs_types.specs.declared.meta.FeatureKind.{FeatureKind}
 use Rattle.hs_types.specs.declared.meta.Metamodel.{Metamodel}
+use Rattle.hs_types.specs.declared.plan.End.TheVariants.{Old, New}
+use Rattle.hs_types.specs.declared.plan.MadeEdge.{MadeEdge}
+use Rattle.hs_types.specs.declared.plan.MadeObject.{MadeObject}
 use Rattle.hs_types.specs.declared.plan.Plan.{Plan}
+use Rattle.hs_types.specs.declared.rule.Mark.{Mark}
 use Rattle.hs_types.specs.declared.rule.Mark.TheVariants.{Drop, Keep, Make}
+use Rattle.hs_types.specs.declared.rule.PatternSlot.{PatternSlot}
 use Rattle.hs_types.specs.declared.rule.Rule.{Rule}
-use Rattle.hs_laws.specs.Bank.{add, arrow, client, kernel, link, node, rule}
+use Rattle.hs_types.specs.declared.rule.SetItem.{SetItem}
+use Rattle.hs_laws.specs.Bank.{add, arrow, balance, balance_of, client, kernel, link, node, number, object_param, rule, set_balance}
 
 -- A class that is its own supertype.
 abbrev pub looped : Metamodel
@@ -89,3 +97,78 @@ drops objects = record {
   make_objects = [];
   make_edges = [];
 }
+
+-- A plan that drops one edge.
+abbrev pub drops_edge : ℕ → Plan
+drops_edge n = record (drops []) { drop_edges = n ∷ [] }
+
+-- Two classes of these names.
+abbrev pub two_classes : List ℕ → List ℕ → Metamodel
+two_classes first second = record {
+  format = 1;
+  classes = record { name = first; is_abstract = false; supers = []; features = [] }
+      ∷ record { name = second; is_abstract = false; supers = []; features = [] } ∷ [];
+  features = [];
+}
+
+-- One class with one feature of this kind.
+abbrev pub with_feature : FeatureKind → Metamodel
+with_feature kind = record {
+  format = 1;
+  classes = record { name = codes "A"; is_abstract = false; supers = []; features = 0 ∷ [] } ∷ [];
+  features = record { owner = 0; name = codes "f"; kind = kind } ∷ [];
+}
+
+-- A rule with one account, these slots and these sets.
+abbrev pub with_slots : List PatternSlot → List SetItem → Rule
+with_slots slots sets =
+    record (rule [] (kernel (node (codes "a") 1 Keep ∷ []) [] slots)) { sets = sets }
+
+-- A rule with one account of this mark, the slot of its balance, and these sets.
+abbrev pub with_set : Mark → List SetItem → Rule
+with_set mark sets =
+    record (rule [] (kernel (node (codes "a") 1 mark ∷ []) [] (balance_of 0 ∷ []))) { sets = sets }
+
+-- rule gift() {
+--   preserve node x: Account; create node w: Account;
+--   multi {
+--     preserve node y: Client; preserve edge y -> x: accounts;
+--     create node z: Account; set z.balance = x.balance;
+--     create edge y -> z: accounts; create edge y -> w: accounts;
+--   }
+-- }
+abbrev pub gift : Rule
+gift =
+    record (rule [] (kernel (node (codes "x") 1 Keep ∷ node (codes "w") 1 Make ∷ []) []
+    (record (balance_of 0) { written = false } ∷ []))) {
+      multis = record {
+        shape = kernel (node (codes "y") 0 Keep ∷ node (codes "z") 1 Make ∷ [])
+            (arrow 2 0 0 Keep ∷ arrow 2 0 3 Make ∷ arrow 2 0 1 Make ∷ []) [];
+        wheres = [];
+        sets = set_balance 3 (balance 0) ∷ [];
+      } ∷ [];
+    }
+
+abbrev pub made_account : ℤ → MadeObject
+made_account amount = record {
+  class = 1;
+  slots = record { attribute = 1; value = value.Int amount } ∷ [];
+}
+
+-- An edge by accounts from this object to the made object of that number.
+abbrev pub made_edge : ℕ → ℕ → MadeEdge
+made_edge source made = record { source = Old source; reference = 0; target = New made }
+
+-- rule mark(in x: Client) {
+--   preserve node x: Client;
+--   multi { preserve node y: Account; preserve edge x -> y: accounts; set y.balance = 1; }
+-- }
+abbrev pub mark_accounts : Rule
+mark_accounts =
+    record (rule (object_param (codes "x") 0 ∷ []) (kernel (node (codes "x") 0 Keep ∷ []) [] [])) {
+      multis = record {
+        shape = kernel (node (codes "y") 1 Keep ∷ []) (arrow 0 0 1 Keep ∷ []) (balance_of 1 ∷ []);
+        wheres = [];
+        sets = set_balance 1 (number (pos 1)) ∷ [];
+      } ∷ [];
+    }

@@ -10,6 +10,7 @@ mod evaluation;
 mod examples;
 mod journals;
 mod order;
+mod refusals;
 mod sparing;
 mod steps;
 
@@ -23,6 +24,10 @@ pub use journals::{
     journals_go_on, journals_stay_lawful, lawful_or_not, missed_attempts_change_nothing,
 };
 pub use order::{least_is_unique, order_is_total};
+pub use refusals::{
+    arguments_refused, copies_tried, elements, graphs_refused, malformed_rules, metamodels_refused,
+    not_spared,
+};
 pub use sparing::spared_matches_stay_valid;
 pub use steps::{
     nothing_dangles_without_deletion, plans_fit, steps_bring_what_they_name,
