@@ -1,5 +1,7 @@
 -- Metamodels, graphs, rules and plans that show what the definitions refuse.
-use Rattle.std.specs.Prelude.{ℕ, ℤ, pos, List, [], ◌∷◌, true, false, codes}
+use Rattle.std.specs.Prelude.{ℕ, zero, suc, ℤ, pos, List, [], ◌∷◌, true, false, codes}
+use Rattle.hs_expr.specs.declared.expr.Expr.{Expr}
+use Rattle.hs_expr.specs.declared.expr.Expr.TheVariants as expr
 use Rattle.hs_expr.specs.declared.value.Value.TheVariants as value
 use Rattle.hs_types.specs.declared.graph.Graph.{Graph}
 use Rattle.hs_types.specs.declared.graph.Object.{Object}
@@ -11,6 +13,7 @@ use Rattle.hs_types.specs.declared.plan.MadeObject.{MadeObject}
 use Rattle.hs_types.specs.declared.plan.Plan.{Plan}
 use Rattle.hs_types.specs.declared.rule.Mark.{Mark}
 use Rattle.hs_types.specs.declared.rule.Mark.TheVariants.{Drop, Keep, Make}
+use Rattle.hs_types.specs.declared.rule.Multi.{Multi}
 use Rattle.hs_types.specs.declared.rule.PatternSlot.{PatternSlot}
 use Rattle.hs_types.specs.declared.rule.Rule.{Rule}
 use Rattle.hs_types.specs.declared.rule.SetItem.{SetItem}
@@ -172,3 +175,11 @@ mark_accounts =
         sets = set_balance 1 (number (pos 1)) ∷ [];
       } ∷ [];
     }
+
+abbrev pub empty_multi : Multi
+empty_multi = record { shape = kernel [] [] []; wheres = []; sets = [] }
+
+-- `true` under n times `not`.
+abbrev pub nots : ℕ → Expr
+nots zero = expr.Literal (value.Bool true)
+nots (suc n) = expr.Not (nots n)

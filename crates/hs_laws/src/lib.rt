@@ -25,8 +25,8 @@ pub use journals::{
 };
 pub use order::{least_is_unique, order_is_total};
 pub use refusals::{
-    arguments_refused, copies_tried, elements, graphs_refused, malformed_rules, metamodels_refused,
-    not_spared,
+    arguments_refused, copies_tried, elements, graphs_refused, limits_refused, malformed_rules,
+    metamodels_refused, not_spared,
 };
 pub use sparing::spared_matches_stay_valid;
 pub use steps::{

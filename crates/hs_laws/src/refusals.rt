@@ -1,6 +1,6 @@
 //! What the definitions refuse, and elements and copies, tried on a small bank.
 
-ghost use Rattle.std.specs.Prelude.{◌≡◌, ℕ, pos, Some, None, [], ◌∷◌, true, false, codes};
+ghost use Rattle.std.specs.Prelude.{◌≡◌, ℕ, pos, Some, None, [], ◌∷◌, true, false, codes, replicate};
 ghost use Rattle.hs_expr.specs.declared.expr.Expr.TheVariants as expr;
 ghost use Rattle.hs_expr.specs.declared.expr.Sign.TheVariants as sign;
 ghost use Rattle.hs_expr.specs.declared.value.Kind.TheVariants as kind;
@@ -14,13 +14,15 @@ ghost use Rattle.hs_types.specs.declared.rule.SlotKind.TheVariants as slot;
 ghost use Rattle.hs_types.specs.Arguments.{ArgsFit, Follows};
 ghost use Rattle.hs_types.specs.Copies.{NoneTouch};
 ghost use Rattle.hs_types.specs.Elements as element;
+ghost use Rattle.hs_types.specs.Limits.{IsSmallRule};
 ghost use Rattle.hs_types.specs.Metamodel.{IsMeta};
 ghost use Rattle.hs_types.specs.Plan.{plan_of};
 ghost use Rattle.hs_types.specs.RuleForm.{IsRule, inverse};
 ghost use Rattle.hs_types.specs.Spares.{Spares};
 ghost use Rattle.hs_types.specs.TypedGraph.{IsTyped};
-ghost use Rattle.hs_laws.specs.Bank.{account, add, args_of, arrow, at_match, balance_of, client, copy, kernel, link, model, node, number, object_arg, one_account, open_account, own, pair_with, reset, rule, set_balance, three_with, touch, transfer, two_accounts, value_arg};
-ghost use Rattle.hs_laws.specs.Strange.{drops, drops_edge, family, gift, made_account, made_edge, mark_accounts, two_classes, with_feature, with_set, with_slots};
+ghost use Rattle.hs_types.specs.ValidMatch.{IsFirst, IsNext};
+ghost use Rattle.hs_laws.specs.Bank.{account, add, args_of, arrow, at_match, balance_of, client, copy, kernel, link, model, node, number, object_arg, one_account, open_account, own, pair_with, reset, rule, set_balance, three_with, touch, transfer, two, two_accounts, value_arg};
+ghost use Rattle.hs_laws.specs.Strange.{drops, drops_edge, empty_multi, family, gift, made_account, made_edge, mark_accounts, nots, two_classes, with_feature, with_set, with_slots};
 
 /// Elements: a rule that adds to a balance uses, deletes and creates its slot; kept edges are used
 /// and not deleted; a created account isn't used, and the inverse of the rule that opens it deletes
@@ -78,7 +80,8 @@ pub fn malformed_rules()
         (set_balance 0 (number (pos 1)) ∷ set_balance 0 (number (pos 2)) ∷ [])) → ⊥ }
     ensures slot_not_needed { IsRule model (with_set Keep []) → ⊥ }
     ensures slot_not_written { IsRule model (with_slots
-        (record (balance_of 0) { written = false } ∷ []) (set_balance 0 (number (pos 1)) ∷ [])) → ⊥ }
+        (record (balance_of 0) { written = false } ∷ []) (set_balance 0 (number (pos 1)) ∷ []))
+        → ⊥ }
     ensures deleting_part { IsRule model (record touch {
       forbids = record { nodes = node (codes "z") 0 Drop ∷ []; edges = [] } ∷ [];
     }) → ⊥ }
@@ -121,8 +124,8 @@ pub fn copies_tried()
     }) → ⊥ }
 {}
 
-/// What a plan doesn't spare: a match whose require part loses its edge, one whose forbid part could
-/// be found after a made edge, and one whose slot is written.
+/// What a plan doesn't spare: a match whose require part loses its edge, one whose forbid part
+/// could be found after a made edge, and one whose slot is written.
 pub fn not_spared()
     ensures support { Spares model (pair_with (link 0 1 2 0 ∷ []) 1) (drops_edge 0) own
         (at_match (1 ∷ []) []) (record { nodes = 0 ∷ []; edges = 0 ∷ [] } ∷ []) → ⊥ }
@@ -131,4 +134,25 @@ pub fn not_spared()
     ensures written { Spares model (one_account (pos 0)) (record (drops []) {
       writes = record { object = 0; slot = slot.Attribute 1; value = value.Int (pos 1) } ∷ [];
     }) reset (at_match (0 ∷ []) []) [] → ⊥ }
+{}
+
+/// Limits: four edges of one source, reference and target, five multi blocks, and an expression
+/// that nests 33 deep.
+pub fn limits_refused()
+    ensures parallel { IsSmallRule (rule [] (kernel
+        (node (codes "c") 0 Keep ∷ node (codes "a") 1 Keep ∷ [])
+        (replicate 4 (arrow 0 0 1 Keep)) [])) → ⊥ }
+    ensures multis { IsSmallRule (record touch { multis = replicate 5 empty_multi }) → ⊥ }
+    ensures deep { IsSmallRule (record touch { wheres = nots 33 ∷ [] }) → ⊥ }
+{}
+
+/// Searches: of two accounts the first match has them in order, and the next one the other way
+/// round.
+pub fn searches_tried()
+    ensures first { IsFirst model (two_accounts (pos 0) (pos 0)) two (args_of [])
+        (Some (at_match (0 ∷ 1 ∷ []) [])) }
+    ensures next { IsNext model (two_accounts (pos 0) (pos 0)) two (args_of [])
+        (at_match (0 ∷ 1 ∷ []) []) (Some (at_match (1 ∷ 0 ∷ []) [])) }
+    ensures not_other { IsFirst model (two_accounts (pos 0) (pos 0)) two (args_of [])
+        (Some (at_match (1 ∷ 0 ∷ []) [])) → ⊥ }
 {}
