@@ -1,4 +1,4 @@
-use Rattle.std.proofs.Common.{ℕ, zero, suc, ◌+◌, ◌≡◌, ◌≤◌, ap, ◌∙◌, subst, arith, lit<}
+use Rattle.std.proofs.Common.{ℕ, zero, suc, true, ◌+◌, ◌≡◌, ◌≤◌, ap, ◌∙◌, subst, arith, lit<}
 use Rattle.hs_expr.specs.declared.value.Value.TheVariants as value
 use Rattle.hs_expr.specs.Evaluation.{nesting}
 use Rattle.hs_expr.proofs.Evaluations.{nesting-Literal, nesting-Not}
