@@ -21,7 +21,7 @@ use Rattle.hs_types.specs.Step.{is_to, new_edges, new_objects, number_of, object
 use Rattle.hs_types.specs.TypedGraph.{IsTyped, edge_at, hash_name, object_at, value_at, value_in}
 use Rattle.hs_expr.proofs.Items.{All-at}
 use Rattle.hs_expr.proofs.Lists.{Rise_past, find-passes}
-use Rattle.hs_laws.proofs.Kept.{is_kind-same}
+use Rattle.hs_laws.proofs.Kept.{is_kind-itself, is_kind-same}
 use Rattle.hs_laws.proofs.Lookups.{edge_at-step, object_at-step}
 use Rattle.hs_laws.proofs.Stepped.{object-stays}
 
@@ -75,11 +75,6 @@ edges-come m g p i made t at =
     subst (λ (e : Option Edge). e ≡ Some (edge_made g.next_object n made)) (sym (edge_at-step g p n)) (elim (cases_Bool (has p.drop_edges n)) [ inl d ↦ rw d new | inr d ↦ rw (d, none) new ])
 
 -- The first write to a slot is the only one.
-is_kind-itself : (k : SlotKind) → is_kind k k ≡ true
-is_kind-itself (Attribute a) = eq-eqb a a refl
-is_kind-itself (Link r) = eq-eqb r r refl
-is_kind-itself Container = refl
-
 found_write : (ws : List Write) (k : ℕ) (w : Write) → EachPair (λ u v. (u.object ≡ v.object) × (u.slot ≡ v.slot) → ⊥) ws → slice_get ws k ≡ Some w → find (is_to w.object w.slot) ws ≡ Some w
 found_write [] k w d e = absurd (none-some w e)
 found_write (u ∷ ws) zero w d e =

@@ -22,7 +22,7 @@ use Rattle.hs_types.specs.declared.rule.PatternSlot.{PatternSlot}
 use Rattle.hs_types.specs.declared.rule.Rule.{Rule}
 use Rattle.hs_types.specs.declared.rule.SetItem.{SetItem}
 use Rattle.hs_types.specs.declared.rule.SlotKind.{SlotKind}
-use Rattle.hs_types.specs.declared.rule.SlotKind.TheVariants.{Attribute, Link, Container}
+use Rattle.hs_types.specs.declared.rule.SlotKind.TheVariants.{Attribute}
 use Rattle.hs_types.specs.Conditions.{env_of}
 use Rattle.hs_types.specs.Copies.{At, Copy, SparesCopy, copies_of, copy_env, images_of, nodes_of, slots_at, used_slots, written_slots}
 use Rattle.hs_types.specs.Dangling.{dropped_edges, dropped_nodes}
@@ -37,7 +37,7 @@ use Rattle.hs_types.specs.ValidMatch.{IsValid, all_dropped_nodes}
 use Rattle.hs_laws.proofs.Classes.{Stands-down, attribute-down}
 use Rattle.hs_laws.proofs.Images.{FitsNode, IsLeft, IsLeft-from, image-among, image-at, image-behind, image-injective, joined}
 use Rattle.hs_types.proofs.Lookups.{object_there}
-use Rattle.hs_laws.proofs.Kept.{has_slot-all}
+use Rattle.hs_laws.proofs.Kept.{has_slot-all, is_kind-itself}
 use Rattle.hs_expr.proofs.Lists.{All-beside, All-both, All-filter_map, All-find, All-flat_map, All-kept, All-of_filter, All-of_map, All-one, AllZip-right, Differ-across, Differ-beside, Differ-not, EachPair-append, EachPair-filter, EachPair-filter_map, EachPair-flat_map, EachPair-known, EachPair-rest, EachPair-weaker, beside-has, has_cases, has-here, has-later, has_not, slice_get-last}
 use Rattle.hs_laws.proofs.Planned.{left_or_made, not_dropped, plan-carries}
 use Rattle.hs_laws.proofs.Staying.{CopyIs, CopyStays, copies_are, copies_stay, kernel_stays}
@@ -104,11 +104,6 @@ set_kept nodes P n s k = go (slice_get nodes n) refl s
 any_self : {A : Type 0} (test : A → A → Bool) → ((x : A) → test x x ≡ true) → (xs : List A) → All (λ x. list_any (λ y. test y x) xs ≡ true) xs
 any_self test r [] = All-nil (λ x. list_any (λ y. test y x) [] ≡ true)
 any_self test r (x ∷ xs) = All-cons (λ z. list_any (λ y. test y z) (x ∷ xs) ≡ true) x xs (or_left (test x x) (list_any (λ y. test y x) xs) (r x)) (All-weaker (λ z. list_any (λ y. test y z) xs ≡ true) (λ z. list_any (λ y. test y z) (x ∷ xs) ≡ true) (λ z h. or_right (test x z) (list_any (λ y. test y z) xs) h) xs (any_self test r xs))
-
-is_kind-itself : (k : SlotKind) → is_kind k k ≡ true
-is_kind-itself (Attribute a) = eq-eqb a a refl
-is_kind-itself (Link a) = eq-eqb a a refl
-is_kind-itself Container = refl
 
 abbrev slot_at : ℕ → SlotKind → PatternSlot
 slot_at n kind = record { node = n; kind = kind; written = true }

@@ -1,7 +1,7 @@
 -- Matches and extensions in the graph after a step.
 use Rattle.std.proofs.Common.{ℕ, ◌+◌, ◌<◌, ◌≡◌, inl, inr, List, [], ◌∷◌, ◌++◌, true, false, not, ◌||◌, ◌&&◌, eqb, Some, refl, ap, subst}
 use Rattle.std.specs.List.{All, AllZip, filter, list_any}
-use Rattle.std.proofs.lemmas.Bool.{both_ways, eqb-true, or_cases, or_from, and_right, and_parts}
+use Rattle.std.proofs.lemmas.Bool.{eq-eqb, both_ways, eqb-true, or_cases, or_from, and_right, and_parts}
 use Rattle.std.proofs.lemmas.List.Elements.{All-nil, All-cons, All-head, All-tail, All-append, All-filter}
 use Rattle.hs_types.specs.declared.graph.Edge.{Edge}
 use Rattle.hs_types.specs.declared.graph.Graph.{Graph}
@@ -91,6 +91,11 @@ NoneDangle-kept ns es g p ends h = All-append D (filter (λ e. not (has p.drop_e
     made : (k : ℕ) (xs : List MadeEdge) → All E xs → All D (new_edges g.next_object k xs)
     made k [] a = All-nil D
     made k (x ∷ xs) a = All-cons D (record { number = k; source = number_of g.next_object x.source; reference = x.reference; target = number_of g.next_object x.target }) (new_edges g.next_object (k + 1) xs) (λ t. absurd (both_ways (has ns (number_of g.next_object x.source) || has ns (number_of g.next_object x.target)) (All-head E x xs a) t)) (made (k + 1) xs (All-tail E x xs a))
+
+pub is_kind-itself : (k : SlotKind) → is_kind k k ≡ true
+is_kind-itself (Attribute a) = eq-eqb a a refl
+is_kind-itself (Link a) = eq-eqb a a refl
+is_kind-itself Container = refl
 
 pub is_kind-same : (a b : SlotKind) → is_kind a b ≡ true → a ≡ b
 is_kind-same (Attribute a) (Attribute b) h = ap Attribute (eqb-true a b h)

@@ -128,8 +128,8 @@ with_slots slots sets =
     record (rule [] (kernel (node (codes "a") 1 Keep ∷ []) [] slots)) { sets = sets }
 
 -- A rule with one account of this mark, the slot of its balance, and these sets.
-abbrev pub with_set : Mark → List SetItem → Rule
-with_set mark sets =
+abbrev pub rule_that_sets : Mark → List SetItem → Rule
+rule_that_sets mark sets =
     record (rule [] (kernel (node (codes "a") 1 mark ∷ []) [] (balance_of 0 ∷ []))) { sets = sets }
 
 -- rule gift() {

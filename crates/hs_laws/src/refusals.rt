@@ -22,7 +22,7 @@ ghost use Rattle.hs_types.specs.Spares.{Spares};
 ghost use Rattle.hs_types.specs.TypedGraph.{IsTyped};
 ghost use Rattle.hs_types.specs.ValidMatch.{IsFirst, IsNext};
 ghost use Rattle.hs_laws.specs.Bank.{account, add, args_of, arrow, at_match, balance_of, client, copy, kernel, link, model, node, number, object_arg, one_account, open_account, own, pair_with, reset, rule, set_balance, three_with, touch, transfer, two, two_accounts, value_arg};
-ghost use Rattle.hs_laws.specs.Strange.{drops, drops_edge, empty_multi, family, gift, made_account, made_edge, mark_accounts, nots, two_classes, with_feature, with_set, with_slots};
+ghost use Rattle.hs_laws.specs.Strange.{drops, drops_edge, empty_multi, family, gift, made_account, made_edge, mark_accounts, nots, two_classes, with_feature, rule_that_sets, with_slots};
 
 /// Elements: a rule that adds to a balance uses, deletes and creates its slot; kept edges are used
 /// and not deleted; a created account isn't used, and the inverse of the rule that opens it deletes
@@ -75,10 +75,10 @@ pub fn malformed_rules()
     ensures foreign { IsRule model (rule [] (kernel
         (node (codes "c") 0 Keep ∷ node (codes "a") 1 Keep ∷ []) (arrow 1 0 0 Keep ∷ []) [])) → ⊥ }
     ensures number_condition { IsRule model (record touch { wheres = number (pos 1) ∷ [] }) → ⊥ }
-    ensures set_at_dropped { IsRule model (with_set Drop (set_balance 0 (number (pos 1)) ∷ [])) → ⊥ }
-    ensures set_twice { IsRule model (with_set Keep
+    ensures set_at_dropped { IsRule model (rule_that_sets Drop (set_balance 0 (number (pos 1)) ∷ [])) → ⊥ }
+    ensures set_twice { IsRule model (rule_that_sets Keep
         (set_balance 0 (number (pos 1)) ∷ set_balance 0 (number (pos 2)) ∷ [])) → ⊥ }
-    ensures slot_not_needed { IsRule model (with_set Keep []) → ⊥ }
+    ensures slot_not_needed { IsRule model (rule_that_sets Keep []) → ⊥ }
     ensures slot_not_written { IsRule model (with_slots
         (record (balance_of 0) { written = false } ∷ []) (set_balance 0 (number (pos 1)) ∷ []))
         → ⊥ }
