@@ -20,7 +20,7 @@ HaveNone (m ∷ ms) = (has_float m.1 ≡ false) × HaveNone ms
 or_none : (a b : Bool) → a ≡ false → b ≡ false → (a || b) ≡ false
 or_none a b g h = rw g h
 
--- wherever the new member comes to be
+-- wherever the new member is put
 put_here : (o : Ordering) (k l : List ℕ) (d e : Data) (ms rest : Members) → has_float d ≡ false → members_have_float (member l e ms) ≡ false →
     members_have_float rest ≡ false → members_have_float (match_ordering o (member k d (member l e ms)) (member l d ms) (member l e rest)) ≡ false
 put_here Less k l d e ms rest a b r = or_none _ _ a b

@@ -260,7 +260,7 @@ struct Setting {
     ghost writes: { 1 ≤ write_piece },
 }
 
-/// Everything in one piece, and no failing call: calls are numbered from 1.
+/// Everything is read and written at once, and no call fails: calls are numbered from 1.
 fn plain() -> Setting {
     Setting {
         read_piece: 4096,

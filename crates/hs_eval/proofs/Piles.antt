@@ -1,4 +1,4 @@
--- Checking piece by piece comes to what is held of what `check_tree` says of the tree.
+-- Checking piece by piece gives what is kept of the answer of `check_tree` on the tree.
 use Rattle.std.proofs.Common.{ℕ, ◌≡◌, List, [], ◌∷◌, Bool, true, false, Option, Some, None, is_some, Result, Ok, Err, refl, sym, ap, subst, ◌∙◌, MatchOption}
 use Rattle.std.proofs.lemmas.Option.{same_Some}
 use Rattle.std.specs.Option.{option_and_then}
@@ -171,7 +171,7 @@ only_tree-pile names (a ∷ []) tree e = ap (λ t. push [] (judged names t)) (sa
   same a b e = cc
 only_tree-pile names (a ∷ b ∷ trees) tree e = cc
 
--- going through the pieces comes to what the tree is checked to be
+-- the checks of all pieces give what the tree is checked to be
 pub run-tree : (names : Names) (ps : List Piece) (tree : Tree) → tree_of ps ≡ Some tree → stack_after_all names ps [] ≡ push [] (judged names tree)
 run-tree names ps tree e = go (trees_after [] ps) refl e where
   go : (o : Option (List Tree)) → trees_after [] ps ≡ o → option_and_then only_tree o ≡ Some tree → stack_after_all names ps [] ≡ push [] (judged names tree)

@@ -4,13 +4,13 @@ use Rattle.hs_expr.specs.declared.failure.Failure.{Failure}
 use Rattle.hs_expr.specs.declared.failure.Failure.TheVariants.{Fault, NoMemory}
 
 infixl 10 ◌>>=◌
--- What comes of two steps is what comes of the second, where the first gives a value; else the
--- first one's fault.
+-- Two steps in order: the second's answer, where the first gives a value; else the first one's
+-- fault.
 abbrev pub ◌>>=◌ : {A B F : Type 0} → Result A F → (A → Result B F) → Result B F
 (Ok x) >>= next = next x
 (Err fault) >>= next = Err fault
 
--- Goes on where the test is true; else there is this fault.
+-- Nothing more where the test is true; else this fault.
 abbrev pub demand : {F : Type 0} → Bool → F → Result (Unit {0}) F
 demand true fault = Ok tt
 demand false fault = Err fault

@@ -1,4 +1,4 @@
--- Images of nodes, and matches that go on.
+-- Images of nodes, and extensions of matches.
 use Rattle.std.proofs.Common.{ℕ, suc, zero, ◌-◌, ◌≤◌, ◌≡◌, inl, inr, List, [], ◌∷◌, ◌++◌, length, true, false, eqb, Some, slice_get, refl, sym, ap, ◌∙◌, subst, arith}
 use Rattle.std.specs.List.{All, AllZip}
 use Rattle.std.proofs.lemmas.Bool.{cases_Bool, both_ways, ne_eqb, or_from, false_from_ne_true}

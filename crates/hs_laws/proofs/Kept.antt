@@ -78,7 +78,7 @@ Extends-unmade m g p s f t x none h =
       stay,
     )
 
--- No edge comes to dangle where none is made at what goes.
+-- No edge dangles after the step that didn't before, where none is made at a dropped object.
 pub NoneDangle-kept : (ns es : List ℕ) (g : Graph) (p : Plan) → All (λ e. (has ns (number_of g.next_object e.source) || has ns (number_of g.next_object e.target)) ≡ false) p.make_edges → NoneDangle ns es g → NoneDangle ns es (step g p)
 NoneDangle-kept ns es g p ends h = All-append D (filter (λ e. not (has p.drop_edges e.number)) g.edges) (new_edges g.next_object g.next_edge p.make_edges) (All-filter (λ e. not (has p.drop_edges e.number)) D g.edges h) (made g.next_edge p.make_edges ends)
   where

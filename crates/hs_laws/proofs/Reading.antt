@@ -25,7 +25,7 @@ use Rattle.hs_types.specs.RuleForm.{IsMulti, IsRule, SetFits, all_reads, has_slo
 use Rattle.hs_laws.proofs.Images.{IsLeft}
 use Rattle.hs_expr.proofs.Lists.{All-flat_map, All-of_flat_map, All-both, All-front, All-rest_of, All-has, All-of_filter, slice_get-first}
 
--- What comes of two steps comes of the first.
+-- Where two steps give a value, the first gives one.
 pub and_then-some : {A B : Type 0} (f : A → Option B) (o : Option A) (y : B) → option_and_then f o ≡ Some y → (x : A) × (o ≡ Some x) × (f x ≡ Some y)
 and_then-some f None y h = absurd (cc)
 and_then-some f (Some x) y h = (x, refl, h)

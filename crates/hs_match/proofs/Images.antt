@@ -178,7 +178,7 @@ pub edge_in_choice_at : (s : Sought) (size n : ℕ) (front : List ℕ) (y : ℕ)
     slice_get (left_edges s.edges) (length front - n) ≡ Some edge → IsChoice size (AreImages s) ((front ++ y ∷ []) ++ rest) → IsFreeImage s (take n front) (drop n front) edge y
 edge_in_choice_at s size n front y rest edge e le at c = rw e (edge_in_choice s size front y rest edge le (rw e at at) c)
 
--- where no object fits and goes on, no choice does
+-- where no object fits and extends to a choice, no choice does
 pub object_passed : (s : Sought) (size : ℕ) (front : List ℕ) (node : PatternNode) (from : ℕ) (o : Option ℕ) → slice_get (left_nodes s.nodes) (length front) ≡ Some node →
     IfSome o (λ x. (y : ℕ) → from ≤ y → y < x → NoObject s node.class front y) →
     IfSome o (λ x. (y : ℕ) → from ≤ y → y < x → (rest : List ℕ) → IsChoice size (AreImages s) ((front ++ y ∷ []) ++ rest) → ⊥)

@@ -11,7 +11,7 @@ use Rattle.hs_types.specs.Pattern.{left_nodes, left_edges}
 use Rattle.hs_types.specs.PlainMatch.{image, IsImage, Extends}
 use Rattle.hs_match.specs.Candidates.{IsFree}
 
--- What an extension begins from, and what it goes on to.
+-- What an extension is an extension of, and to what.
 pub record Sought : Type 0 where
   pub meta : Metamodel
   pub graph : Graph

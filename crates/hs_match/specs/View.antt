@@ -2,7 +2,7 @@
 use Rattle.hs_match.specs.declared.extending.Extending.{Extending as Search}
 use Rattle.hs_match.specs.Extending.{Sought}
 
--- What an extension begins from, and what it goes on to.
+-- The search as plain data.
 abbrev pub sought : Search → Sought
 sought e = record {
   meta = e.meta.now;

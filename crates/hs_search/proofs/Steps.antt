@@ -16,7 +16,7 @@ IsAbove-floor None y rest lt a = omega arith
 IsAbove-floor (Some []) y rest lt a = omega arith
 IsAbove-floor (Some (x ∷ xs)) y rest lt a = elim a [ inl less ↦ omega arith | inr p ↦ let same : x ≡ y = p.0 in omega arith ]
 
--- Passed: no choice above the bound goes on with a number below x.
+-- Passed: no choice above the bound continues with a number below x.
 abbrev pub Passed : (size : ℕ) (Good : List ℕ → Type 0) (bound : Option (List ℕ)) (front : List ℕ) (x : ℕ) → Type 0
 Passed size Good bound front x = (y : ℕ) → y < x → (rest : List ℕ) → GoesOn size Good bound front (y ∷ rest) → ⊥
 
@@ -41,7 +41,7 @@ Passed-all size Good bound front from passed none short [] g = short (rw append-
 Passed-all size Good bound front from passed none short (y ∷ rest) g =
     elim (cases_lt y from) [ inl early ↦ passed y early rest g | inr late ↦ none y late rest (rw append_assoc g.choice) ]
 
--- the best that goes on with x is the best, where all numbers below x are passed
+-- the best that continues with x is the best, where all numbers below x are passed
 pub best-first : (size : ℕ) (Good : List ℕ → Type 0) (bound behind : Option (List ℕ)) (front : List ℕ) (x : ℕ) (all : List ℕ) → Passed size Good bound front x →
     ((rest : List ℕ) → IsAbove bound (x ∷ rest) ↔ IsAbove behind rest) → GoesOnBest size Good behind (front ++ x ∷ []) all → (length front ≡ size → ⊥) →
     GoesOnBest size Good bound front all
@@ -69,6 +69,6 @@ popped front pushed now rest x same push taken =
     let short : length front ≡ length now - 1 = omega (arith, ap length e, length-append front (x ∷ [])) in
     taken ∙ rw e (take_at front (x ∷ []) (length (front ++ x ∷ []) - 1) (rw e at short))
 
--- with nothing in front and no bound, each choice goes on
+-- with an empty front and no bound, each choice continues the front
 pub none-at-all : (size : ℕ) (Good : List ℕ → Type 0) (front : List ℕ) → front ≡ [] → IsNone (GoesOn size Good None front) → IsNone (IsChoice size Good)
 none-at-all size Good front empty none = λ xs choice. none xs (record { choice = rw empty choice; above = tt })

@@ -1,4 +1,4 @@
--- What a search goes on to from a front of a choice.
+-- The choices that continue a front, and the least of them above a bound.
 use Rattle.std.specs.Prelude.{ℕ, ◌≡◌, List, [], ◌∷◌, ◌++◌, Option, Some, None}
 use Rattle.hs_expr.specs.Lexicographic.{IsBefore}
 use Rattle.hs_search.specs.Choice.{IsChoice, IsLeastList}

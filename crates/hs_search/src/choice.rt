@@ -24,7 +24,7 @@ pub trait Choice {
     fn size(&self) -> usize
         ensures { result ≡ size self.now };
 
-    /// A number from `from` on to go on with after `front`. Those that it passes over lead to no
+    /// A number from `from` on that may follow `front`. Those that it passes over lead to no
     /// choice; it may itself lead to none.
     fn next(&self, front: &[u32], from: u64) -> Option<u32>
         requires short { length front.now < size self.now }

@@ -244,7 +244,7 @@ fn repeat(text: &mut String, part: &str, count: u32) -> Result<(), AllocError> {
     Ok(())
 }
 
-/// Whether this comes of the middle with `count` fronts before it and `count` ends after it.
+/// Whether this is what the middle with `count` fronts before it and `count` ends after it gives.
 fn has_outcome(
     alloc: Global,
     count: u32,

@@ -94,7 +94,7 @@ fn conditions_are_checked(rt: HostRuntime) -> Result<(), Fail> {
     Ok(())
 }
 
-/// The text `front`, so many times `middle`, and `back`.
+/// The text `front`, `count` times `middle`, and `back`.
 fn repeated(
     alloc: Global,
     front: &str,

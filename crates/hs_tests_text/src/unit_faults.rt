@@ -130,7 +130,7 @@ fn limits_of_units_are_kept(rt: HostRuntime) -> Result<(), Fail> {
     Ok(())
 }
 
-/// A unit that calls another one so many times, which has one parameter more than that.
+/// A unit that calls another one `count` times, which has one parameter more than that.
 fn many_calls(alloc: Global, count: u32) -> Result<String, AllocError> {
     let call = ("v(); // ", "\n");
     let calls = numbered(alloc, "unit u() sequential {", call, count, "}\nunit v(")?;

@@ -102,7 +102,7 @@ module _ (moves : PositionsMove) (source : List ℕ) where
 
 -- WHAT IS AS LONG AS IT CAN BE
 
--- no token goes on with such a character, but a text
+-- no token but a text continues with such a character
 abbrev pub is_stop : ℕ → Bool
 is_stop c = cond (is_word_part c || c == 61 || c == 62) false true
 
@@ -236,7 +236,7 @@ not-number cs h = step (is_integer cs) h where
   step true h = cc
   step false h = lit< tt
 
--- a sign that nothing goes on
+-- a sign that no other sign continues
 pub sign-mark : (cs : List ℕ) (ms : List Mark) → is_lexeme cs ≡ true → is_integer cs ≡ false → list_all is_low cs ≡ true → ((d : ℕ) (m : List ℕ) → is_lexeme (cs ++ (d ∷ m)) ≡ false) → IsSpaced ms → IsSpaced (Lexeme cs cs ∷ ms)
 sign-mark cs ms l i a n h = ((λ begin. any-longest cs (spelled ms) l n), not-number cs i, low-same cs a, low-scalars cs a, h)
 

@@ -83,7 +83,7 @@ whole-fault fault.End l c a = a
 fault-same : (l c m d : ℕ) (k j : FaultKind) → SameFault l c k m d j → (λ (f : TextFault). f) (record { line = l; column = c; kind = k }) ≡ record { line = m; column = d; kind = j }
 fault-same l c m d k j same = let line = same.0 in let column = same.1 in let kind = same.2 in cc
 
--- characters are tokens in one way
+-- characters are tokens in at most one way
 abbrev pub LexedOnce : Type 0
 LexedOnce = (p : Position) (cs : List ℕ) (ts us : List Token) (e g : Ending) → Lexes p cs ts e → Lexes p cs us g → (ts ≡ us) × (e ≡ g)
 

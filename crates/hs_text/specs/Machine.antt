@@ -347,7 +347,7 @@ abbrev pub choice_or : Option Production → Option Production → Option Produc
 choice_or (Some p) o = Some p
 choice_or None o = o
 
--- The production by which a part goes on with a token of this kind.
+-- The production that a part takes at a token of this kind.
 abbrev pub production_of : Part → Kind → Option Production
 production_of n k = choice_or (choice_of n k) (empty_of n)
 

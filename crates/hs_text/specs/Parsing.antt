@@ -23,7 +23,7 @@ IsSyntaxOf source s = (ts : List Token) × AreTokens source ts × IsText source 
 abbrev pub Begins : List ℕ → List Token → Type 0
 Begins source ts = (more : List Token) × (ds : List Definition) × IsText source (ts ++ more) ds
 
--- The token is the first with which no text of the grammar goes on.
+-- The tokens before this one begin a text of the grammar; with it they begin none.
 pub record IsFirstWrong (source : List ℕ) (ts : List Token) (t : Token) : Type 0 where
   pub front : List Token
   pub rest : List Token

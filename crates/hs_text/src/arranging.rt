@@ -1,5 +1,5 @@
-//! The text of an expression, in one pass over its pieces from the last to the first: so neither
-//! the machine's stack nor the time grows with its depth.
+//! The text of an expression, by a single pass over its pieces from the last to the first. So
+//! neither the stack nor the time grows with its depth.
 
 ghost use Rattle.std.specs.Prelude.{◌≡◌, ◌++◌, IfOk, OnOk, string_bytes};
 ghost use Rattle.std.specs.List.{concat};

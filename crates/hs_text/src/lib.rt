@@ -44,7 +44,7 @@ pub use syntax::{
 };
 
 /// The syntax of a rule and unit text, or its first fault: the first token that is wrong, and else
-/// the first token with which no text of the grammar goes on, or an end before the grammar's.
+/// the first token after which the tokens begin no text of the grammar, or an early end.
 pub fn parse(alloc: Global, text: &str) -> Result<Syntax, Failure<TextFault>>
     ensures ok { IfOk result (IsSyntaxOf (chars text.now)) }
     ensures err { IfErr result (IfFault (IsTextFault (chars text.now))) }

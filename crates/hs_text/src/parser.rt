@@ -225,7 +225,7 @@ pub fn read(
     Ok(mem::replace(&mut builder.definitions, List::new(alloc)))
 }
 
-/// The fault at a token with which no text goes on.
+/// The fault at a token that continues no text of the grammar.
 fn token_fault(token: Token) -> TextFault
     ensures { result ≡ record {
       line = token.span.line;

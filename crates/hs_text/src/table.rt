@@ -447,7 +447,7 @@ pub fn empty(part: Part) -> Option<Production>
     }
 }
 
-/// The production by which a part goes on with a token of this kind, if it can.
+/// The production that a part takes at a token of this kind, if there is one.
 pub fn production(part: Part, kind: Kind) -> Option<Production>
     ensures { result ≡ production_of part kind }
 {

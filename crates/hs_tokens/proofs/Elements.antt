@@ -26,7 +26,7 @@ pub record Cut (cs : List ℕ) (n : ℕ) (P : List ℕ → List ℕ → Type 0) 
   pub some : 0 < n
   pub is : P front rest
 
--- what is skipped: whatever the rest is, it goes on with that
+-- what is skipped, whatever the rest is
 abbrev pub Separates : List ℕ → List ℕ → Type 0
 Separates front rest = (p : Position) (ts : List Token) (e : Ending) → Lexes (after p front) rest ts e → Lexes p (front ++ rest) ts e
 

@@ -57,7 +57,7 @@ lexed p cs = found (suc (length cs)) p cs (omega arith)
 
 -- AND ONCE
 
--- two fronts of one list: one of them goes on with the other
+-- of two fronts of one list, one is a front of the other
 fronts : (f r g s : List ℕ) → f ++ r ≡ g ++ s → ((m : List ℕ) × (g ≡ f ++ m) × (r ≡ m ++ s)) ⊎ ((m : List ℕ) × (f ≡ g ++ m) × (s ≡ m ++ r))
 fronts [] r g s w = inl (g, refl, w)
 fronts (x ∷ f) r [] s w = inr (x ∷ f, refl, sym w)

@@ -30,7 +30,7 @@ is_nil (c ∷ cs) = false
 abbrev pub is_escaped : ℕ → Bool
 is_escaped c = c == 34 || c == 92 || c == 110 || c == 116
 
--- Whether the characters go on with a text that is open, up to and with its last quote: characters
+-- Whether the characters are the rest of an open text, up to and with its last quote: characters
 -- from U+0020 on, and escapes. The first argument says whether a backslash is before them.
 abbrev pub closes : Bool → List ℕ → Bool
 closes escaped [] = false

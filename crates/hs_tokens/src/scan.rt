@@ -109,7 +109,7 @@ fn spells(word: &[char], letters: &[u8]) -> bool
     true
 }
 
-/// How many characters go on with a text that is open, up to and with its last quote.
+/// The length of the rest of an open text, up to and with its last quote.
 fn text_len(chars: &[char]) -> Option<usize>
     ensures within { IfSome result (λ n. n ≤ length chars.now) }
     ensures len { result ≡ closing_len false chars.now }

@@ -1,4 +1,4 @@
--- The order of extensions, and the order of their numbers in one list.
+-- The order of extensions, and the order of their numbers as one list.
 use Rattle.std.proofs.Common.{ℕ, ◌≡◌, ◌⊎◌, inl, inr, List, [], ◌∷◌, ◌++◌, length, refl, arith}
 use Rattle.hs_expr.specs.Lexicographic.{IsBefore}
 use Rattle.hs_types.specs.declared.matching.Extension.{Extension}

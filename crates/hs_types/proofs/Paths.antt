@@ -86,7 +86,7 @@ same_or_more (x ∷ xs) (y ∷ ys) h = go x y h.0 (same_or_more xs ys h.1)
 same_or_more [] (y ∷ ys) h = absurd h
 same_or_more (x ∷ xs) [] h = absurd h
 
--- After so many steps either nothing changes any more, or there are as many marks.
+-- After n steps either nothing changes any more, or there are at least n marks.
 still_or_many : (supers : List (List ℕ)) (d s : ℕ) → (reaching_within supers d (suc s) ≡ reaching_within supers d s) ⊎ (s ≤ marked (reaching_within supers d s))
 still_or_many supers d zero = inr (omega arith)
 still_or_many supers d (suc s) = go (still_or_many supers d s) (same_or_more (reaching_within supers d s) (reaching_within supers d (suc s)) (one_more supers d s))

@@ -36,10 +36,10 @@ abbrev pub AreFit : Metamodel → Env → List SetItem → Type 0
 AreFit m env sets =
     All (λ item. IsSomeAnd (value_of env item.value) (λ v. fits m item.attribute v ≡ true)) sets
 
--- The match goes on to the part in no way.
+-- No extension of the match to the part exists.
 abbrev pub IsAbsent : Metamodel → Graph → Rule → Extension → Part → Type 0
 IsAbsent m g rule f part = (x : Extension) → Extends m g rule.shape f (shape_of part) x → ⊥
 
--- The match goes on to the part in some way.
+-- An extension of the match to the part exists.
 abbrev pub IsPresent : Metamodel → Graph → Rule → Extension → Part → Type 0
 IsPresent m g rule f part = (x : Extension) × Extends m g rule.shape f (shape_of part) x

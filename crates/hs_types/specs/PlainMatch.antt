@@ -1,5 +1,5 @@
--- Plain matches, and how one goes on: an injective map from the left side to objects and edges of
--- the graph.
+-- Plain matches and their extensions: injective maps from left sides to objects and edges of the
+-- graph.
 use Rattle.std.specs.Prelude.{ℕ, ◌≡◌, List, [], ◌++◌, length, take, Some, slice_index}
 use Rattle.std.specs.List.{AllZip}
 use Rattle.hs_types.specs.declared.graph.Graph.{Graph}
@@ -28,7 +28,7 @@ IsImage g at edge n =
       target = at edge.target;
     })
 
--- x takes the match f of the shape s on to the shape t: an object for each left node of t, of its
+-- x extends the match f of the shape s to the shape t: an object for each left node of t, of its
 -- class; an edge for each left edge of t, of its reference and between the images of its ends. No
 -- object and no edge is taken twice, by f and x together.
 pub record Extends (m : Metamodel) (g : Graph) (s : Shape) (f : Extension) (t : Shape)

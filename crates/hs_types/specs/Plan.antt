@@ -74,7 +74,7 @@ abbrev pub end_after : ℕ → End → End
 end_after count (Old n) = Old n
 end_after count (New i) = New (i + count)
 
--- The same of a copy, where the copies before it make so many objects: a node of the kernel keeps
+-- The same of a copy, where the copies before it make `count` objects: a node of the kernel keeps
 -- its object.
 abbrev pub copy_end : Rule → Extension → ℕ → Copy → ℕ → End
 copy_end rule f count copy n =
@@ -89,7 +89,7 @@ edges_for end edges =
       target = end edge.target;
     }) (made_edges edges)
 
--- The edges that copies make, where the copies before them make so many objects.
+-- The edges that copies make, where the copies before them make `count` objects.
 abbrev pub copy_edges : Rule → Extension → ℕ → List Copy → List MadeEdge
 copy_edges rule f count [] = []
 copy_edges rule f count (copy ∷ copies) =

@@ -56,7 +56,7 @@ pub fn count_left_edges(edges: &[PatternEdge]) -> usize
     edges.iter().filter(|edge| edge.mark.is_left()).count()
 }
 
-/// How many left nodes are before this one, where the nodes go on from those of the base.
+/// How many left nodes are before this one, where the nodes are numbered after those of the base.
 pub fn left_nodes_before(base: &[PatternNode], nodes: &[PatternNode], node: u16) -> usize
     ensures { result ≡ length (left_nodes (take node (base.now ++ nodes.now))) }
 {
@@ -67,7 +67,7 @@ pub fn left_nodes_before(base: &[PatternNode], nodes: &[PatternNode], node: u16)
         .count()
 }
 
-/// The image of a node, where the nodes and the images go on from those of the base.
+/// The image of a node, where the nodes and the images are numbered after those of the base.
 pub fn image_of(
     base: &[PatternNode],
     nodes: &[PatternNode],

@@ -47,7 +47,7 @@ pub struct PatternSlot {
     pub written: bool,
 }
 
-/// Nodes, edges and slots with what becomes of them. The left side has what is kept or dropped.
+/// Nodes, edges and slots, each with its mark. The left side has what is kept or dropped.
 #[derive(Debug, Drop)]
 pub struct Shape {
     pub nodes: List<PatternNode>,
@@ -56,7 +56,7 @@ pub struct Shape {
     pub slots: List<PatternSlot>,
 }
 
-/// A forbid or require pattern. The numbers of its nodes and edges go on from those of the rule's.
+/// A forbid or require pattern. Its nodes and edges are numbered after those of the rule's kernel.
 #[derive(Debug, Drop)]
 pub struct Part {
     pub nodes: List<PatternNode>,
@@ -71,8 +71,8 @@ pub struct SetItem {
     pub value: Expr,
 }
 
-/// A multi-rule: applied for each of its matches that goes on from the rule's match. The numbers of
-/// its nodes and edges go on from those of the rule's.
+/// A multi-rule: applied once for each of its matches that extends the rule's match. Its nodes and
+/// edges are numbered after those of the rule's kernel.
 #[derive(Debug, Drop)]
 pub struct Multi {
     pub shape: Shape,
