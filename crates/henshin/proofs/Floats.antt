@@ -14,7 +14,7 @@ use Rattle.hs_types.specs.declared.meta.Metamodel.{Metamodel}
 use Rattle.hs_types.specs.declared.request.Arg.{Arg}
 use Rattle.hs_types.specs.declared.request.Arg.TheVariants as arg
 use Rattle.hs_types.specs.declared.request.Args.{Args}
-use Rattle.hs_types.specs.declared.rule_set.RuleSet.{RuleSet}
+use Rattle.hs_types.specs.Rules.{Rules}
 use Rattle.hs_session.specs.declared.report.Out.{Out}
 use Rattle.hs_session.specs.declared.report.Reply.{Reply}
 use Rattle.hs_json_model.specs.Written.{with_members, object_data, list_data, value_data}
@@ -56,15 +56,15 @@ outcome_none m (outcome.Applied found new old gone) = (
   ),
 )
 
-pub tried_none : (rules : RuleSet) (t : Tried) → HaveNone (tried_members rules t)
+pub tried_none : (rules : Rules) (t : Tried) → HaveNone (tried_members rules t)
 tried_none rules t = (args_none t.args, (refl, (refl, outcome_none rules.meta.value t.outcome)))
 
-pub what_none : (rules : RuleSet) (w : What) → HaveNone (what_members rules w)
+pub what_none : (rules : Rules) (w : What) → HaveNone (what_members rules w)
 what_none rules (what.One t) = tried_none rules t
 what_none rules (what.Group attempts done) =
     (list_none (λ t. object_data (tried_members rules t)) attempts (λ t. object_none (tried_members rules t) (tried_none rules t)), (refl, tt))
 
-pub entry_none : (rules : RuleSet) (place : ℕ) (e : Entry) → has_float (entry_data rules place e) ≡ false
+pub entry_none : (rules : Rules) (place : ℕ) (e : Entry) → has_float (entry_data rules place e) ≡ false
 entry_none rules place e =
     with_none (with_members no_members (what_members rules e.what)) (place_members place e)
     (with_none no_members (what_members rules e.what) refl (what_none rules e.what)) (refl, (refl, (refl, tt)))

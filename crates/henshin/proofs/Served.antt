@@ -17,7 +17,7 @@ use Rattle.hs_types.specs.declared.request.Request.{Request}
 use Rattle.hs_types.specs.declared.rule.PatternEdge.{PatternEdge}
 use Rattle.hs_types.specs.declared.rule.PatternNode.{PatternNode}
 use Rattle.hs_types.specs.declared.rule.Rule.{Rule}
-use Rattle.hs_types.specs.declared.rule_set.RuleSet.{RuleSet}
+use Rattle.hs_types.specs.Rules.{Rules}
 use Rattle.hs_types.specs.declared.unit.Unit.{Unit as RuleUnit}
 use Rattle.hs_types.specs.Limits.{IsSmallRule}
 use Rattle.hs_types.specs.Pattern.{is_drop, is_left}
@@ -128,7 +128,7 @@ one_request rules units found journal sessions request e some = elim (asked rule
 ]
 
 -- It calls the first rule of the set.
-pub calls_first : (rules : RuleSet) (sessions : List (List Request)) (request : Request) → IsOnly rules.rules sessions request → rule_named rules request.call ≡ Some 0
+pub calls_first : (rules : Rules) (sessions : List (List Request)) (request : Request) → IsOnly rules.rules sessions request → rule_named rules request.call ≡ Some 0
 calls_first rules sessions request only =
     let call : request.call ≡ only.rule.name = ap (λ (r : Request). r.call) only.is_plain in
     rw (only.is_only, call, same_text-itself only.rule.name) refl

@@ -17,7 +17,7 @@ use Rattle.hs_types.specs.declared.meta.Metamodel.{Metamodel}
 use Rattle.hs_types.specs.declared.request.Arg.{Arg}
 use Rattle.hs_types.specs.declared.request.Arg.TheVariants as arg
 use Rattle.hs_types.specs.declared.request.Args.{Args}
-use Rattle.hs_types.specs.declared.rule_set.RuleSet.{RuleSet}
+use Rattle.hs_types.specs.Rules.{Rules}
 use Rattle.hs_session.specs.declared.report.Out.{Out}
 use Rattle.hs_session.specs.declared.report.Reply.{Reply}
 use Rattle.hs_session.specs.declared.report.Report.{Report}
@@ -36,7 +36,7 @@ abbrev pub args_data : Args → Data
 args_data args = object_data (map (λ a. (a.name, arg_data a.arg)) args.list)
 
 -- The name of a rule.
-abbrev pub rule_name : RuleSet → ℕ → List ℕ
+abbrev pub rule_name : Rules → ℕ → List ℕ
 rule_name rules n = unwrap_or (option_map (λ rule. rule.name) (slice_get rules.rules n)) []
 
 abbrev pub extension_members : ExtensionNames → List Member
@@ -73,13 +73,13 @@ outcome_members m (outcome.Applied found new old gone) =
     (codes "outcome", string (codes "applied")) ∷ match_members found
     ++ change_members m new old gone
 
-abbrev pub tried_members : RuleSet → Tried → List Member
+abbrev pub tried_members : Rules → Tried → List Member
 tried_members rules t =
     (codes "args", args_data t.args) ∷ (codes "attempt", number_data t.attempt)
     ∷ (codes "rule", string (rule_name rules t.rule))
     ∷ outcome_members rules.meta.value t.outcome
 
-abbrev pub what_members : RuleSet → What → List Member
+abbrev pub what_members : Rules → What → List Member
 what_members rules (what.One t) = tried_members rules t
 what_members rules (what.Group attempts done) =
     (codes "attempts", list_data (λ t. object_data (tried_members rules t)) attempts)
@@ -91,7 +91,7 @@ place_members place e =
     (codes "place", number_data place) ∷ (codes "request", number_data e.request)
     ∷ (codes "session", number_data e.session) ∷ []
 
-abbrev pub entry_data : RuleSet → ℕ → Entry → Data
+abbrev pub entry_data : Rules → ℕ → Entry → Data
 entry_data rules place e =
     object (with_members (with_members no_members (what_members rules e.what))
     (place_members place e))
@@ -113,7 +113,7 @@ reply_members r =
 abbrev pub reply_data : Reply → Data
 reply_data r = object_data (reply_members r)
 
-abbrev pub report_text : RuleSet → Report → List ℕ
+abbrev pub report_text : Rules → Report → List ℕ
 report_text rules r =
     lines_of (map (λ e. entry_data rules e.0 e.1) (enumerate_from 0 r.journal))
     ++ lines_of (map reply_data r.replies)

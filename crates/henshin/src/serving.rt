@@ -4,7 +4,6 @@ ghost use Rattle.std.specs.Prelude.{ℕ, ◌≡◌, IfOk, List, Option, Some, sl
 ghost use Rattle.std.specs.Arc.{arc_value};
 ghost use Rattle.std.specs.Option.{option_and_then, option_copied};
 ghost use Rattle.serde_json.specs.Data.{Data};
-ghost use Rattle.hs_types.specs.Journal.{meta_of};
 ghost use Rattle.hs_json.specs.Reading.{Contents};
 ghost use Rattle.hs_json_model.specs.Sound.{IsSound};
 ghost use Rattle.hs_input.specs.Input.{IsInput};
@@ -73,7 +72,7 @@ fn checked(alloc: Global, input: &Input) -> Result<Answer, AllocError>
 /// The report of what is asked for.
 fn applied(alloc: Global, input: Input) -> Result<Answer, AllocError>
     requires sound { IsSound (arc_value input.graph.meta) input.graph.graph }
-    requires same_model { arc_value input.graph.meta ≡ meta_of input.rules }
+    requires same_model { arc_value input.graph.meta ≡ input.rules.meta }
     requires asked { (found : Option Data) × (journal : Option Data)
         × (sessions_asked input.rules.rules input.rules.units found journal ≡ Some input.sessions) }
     ensures { (bytes : List ℕ) (held : Contents) → IsInput bytes held input
@@ -101,7 +100,7 @@ fn ran(
     sessions: &[List<Request>],
 ) -> Result<Report, AllocError>
     requires sound { IsSound (arc_value graph.meta) graph.graph }
-    requires same_model { arc_value graph.meta ≡ meta_of rules.now }
+    requires same_model { arc_value graph.meta ≡ rules.now.meta }
     requires asked { (found : Option Data) × (journal : Option Data)
         × (sessions_asked rules.now.rules rules.now.units found journal ≡ Some sessions.now) }
     ensures { IfOk result (IsSerialReport rules.now graph.graph sessions.now) }

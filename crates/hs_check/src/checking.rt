@@ -3,7 +3,6 @@
 ghost use Rattle.std.specs.Prelude.{◌≡◌, IfOk, Ok};
 ghost use Rattle.std.specs.Arc.{arc_value};
 ghost use Rattle.hs_expr.specs.Verdict.{verdict};
-ghost use Rattle.hs_types.specs.Journal.{meta_of};
 ghost use Rattle.hs_expr.specs.Steps.{GivesWhere};
 ghost use Rattle.hs_faults.specs.UnitFaults.{faults_of};
 ghost use Rattle.hs_check.specs.Counts.{KeepAll};
@@ -32,7 +31,7 @@ pub fn check(
 ) -> Result<RuleSet, Failure<RuleFault>>
     ensures set { GivesWhere (IsMeant (arc_value meta.now) syntax.now.definitions) result
         (verdict (faults_of (arc_value meta.now) syntax.now.definitions)) }
-    ensures meta { IfOk result (λ set. meta_of set ≡ arc_value meta.now) }
+    ensures meta { IfOk result (λ set. set.meta ≡ arc_value meta.now) }
     ensures whole { IfOk result (λ set. KeepAll syntax.now.definitions set.rules) }
     ensures found { IfOk result (λ set. Resolve (arc_value meta.now) syntax.now.definitions) }
 {
@@ -46,7 +45,7 @@ pub fn check(
 fn set_meant(alloc: Global, meta: &Arc<Meta>, syntax: &Syntax) -> Result<RuleSet, AllocError>
     requires { verdict (faults_of (arc_value meta.now) syntax.now.definitions) ≡ Ok tt }
     ensures set { IfOk result (IsMeant (arc_value meta.now) syntax.now.definitions) }
-    ensures meta { IfOk result (λ set. meta_of set ≡ arc_value meta.now) }
+    ensures meta { IfOk result (λ set. set.meta ≡ arc_value meta.now) }
     ensures whole { IfOk result (λ set. KeepAll syntax.now.definitions set.rules) }
     ensures found { IfOk result (λ set. Resolve (arc_value meta.now) syntax.now.definitions) }
 {

@@ -24,7 +24,7 @@ use Rattle.hs_types.specs.declared.rule.SetItem.{SetItem}
 use Rattle.hs_types.specs.declared.rule.SlotKind.{SlotKind}
 use Rattle.hs_types.specs.declared.rule.SlotKind.TheVariants.{Attribute}
 use Rattle.hs_types.specs.Conditions.{env_of}
-use Rattle.hs_types.specs.Copies.{At, Copy, SparesCopy, copies_of, copy_env, images_of, nodes_of, slots_at, used_slots, written_slots}
+use Rattle.hs_types.specs.Copies.{At, Copy, SparesCopy, copies_of, copy_env, images_of, nodes_of, slots_at, used_slots, written_slots, all_dropped_nodes}
 use Rattle.hs_types.specs.Dangling.{dropped_edges, dropped_nodes}
 use Rattle.hs_expr.specs.Lists.{has, Apart, Differ, EachPair}
 use Rattle.hs_types.specs.Metamodel.{IsMeta, attributes_of}
@@ -33,7 +33,7 @@ use Rattle.hs_types.specs.Plan.{Fits, copy_writes, plan_of, writes_of}
 use Rattle.hs_types.specs.PlainMatch.{Extends, IsImage, image, kernel_of}
 use Rattle.hs_types.specs.RuleForm.{EndFits, IsRule, SetFits, SetOnce, has_slot, is_read, is_set, reads_in, scope_of}
 use Rattle.hs_types.specs.TypedGraph.{AreSlotsOf, IsTyped, Stands, edge_at, object_at, value_at, value_in}
-use Rattle.hs_types.specs.ValidMatch.{IsValid, all_dropped_nodes}
+use Rattle.hs_types.specs.ValidMatch.{IsValid}
 use Rattle.hs_laws.proofs.Classes.{Stands-down, attribute-down}
 use Rattle.hs_laws.proofs.Images.{FitsNode, IsLeft, IsLeft-from, image-among, image-at, image-behind, image-injective, joined}
 use Rattle.hs_types.proofs.Lookups.{object_there}

@@ -1,6 +1,6 @@
 -- A small bank, for examples: clients with accounts, and accounts with a balance and an owner.
 use Rattle.std.specs.Prelude.{ℕ, ℤ, pos, List, [], ◌∷◌, true, false, Some, None, codes}
-use Rattle.std.proofs.Common.{lit<}
+use Rattle.std.proofs.Common.{lit<, refl}
 use Rattle.hs_expr.specs.declared.expr.Expr.{Expr}
 use Rattle.hs_expr.specs.declared.expr.Expr.TheVariants as expr
 use Rattle.hs_expr.specs.declared.expr.Sign.TheVariants as sign
@@ -35,6 +35,7 @@ use Rattle.hs_types.specs.declared.rule.Rule.{Rule}
 use Rattle.hs_types.specs.declared.rule.SetItem.{SetItem}
 use Rattle.hs_types.specs.declared.rule.Shape.{Shape}
 use Rattle.hs_types.specs.declared.rule.SlotKind.TheVariants as slot
+use Rattle.hs_types.specs.Rules.{Rules}
 
 -- Client is class 0, Account class 1; accounts is feature 0, balance 1, owner 2.
 abbrev pub model : Metamodel
@@ -388,6 +389,10 @@ always_unless_it_overflows =
     expr.Binary sign.Or (expr.Literal (value.Bool true)) (expr.Binary sign.Greater
     (expr.Binary sign.Plus (expr.Param 2) (number (pos 1))) (number (pos 0)))
 
+-- Rules 0 and 1 of the bank.
+abbrev pub bank_rules : Rules
+bank_rules = record { meta = model; rules = open_account ∷ add ∷ []; units = [] }
+
 -- Entries that say what wasn't: a match missed that is there, another name than the next, and
 -- an object gone that is still there.
 abbrev pub open_args : Args
@@ -404,4 +409,9 @@ opens_misnamed =
 abbrev pub opens_and_drops : Entry
 opens_and_drops =
     one 0 (tried 0 open_args (Applied (record { nodes = codes "c1" ∷ []; edges = []; copies = [] })
-    (codes "#0" ∷ []) [] (record { name = codes "c1"; class = 0; slots = [] } ∷ [])))
+    (codes "#0" ∷ []) [] (record {
+      name = codes "c1";
+      class = codes "Client";
+      values = [];
+      in_order = refl;
+    } ∷ [])))

@@ -21,7 +21,7 @@ pub use examples::{
     orders, plain_matches, plans, rules_refused, steps_made, transfers,
 };
 pub use journals::{
-    journals_go_on, journals_stay_lawful, lawful_or_not, missed_attempts_change_nothing,
+    attempts_stay_typed, journals_go_on, journals_stay_lawful, lawful_or_not, missed_attempts_change_nothing,
 };
 pub use order::{least_is_unique, order_is_total};
 pub use refusals::{

@@ -13,8 +13,8 @@ use Rattle.hs_types.specs.declared.matching.Match.{Match}
 use Rattle.hs_types.specs.declared.meta.Metamodel.{Metamodel}
 use Rattle.hs_types.specs.declared.request.Request.{Request}
 use Rattle.hs_types.specs.declared.rule.Rule.{Rule}
-use Rattle.hs_types.specs.declared.rule_set.RuleSet.{RuleSet}
-use Rattle.hs_types.specs.Journal.{OutcomeAsks, after_outcome, meta_of, new_names}
+use Rattle.hs_types.specs.Rules.{Rules}
+use Rattle.hs_types.specs.Journal.{OutcomeAsks, after_outcome, new_names}
 use Rattle.hs_types.specs.Plan.{plan_of}
 use Rattle.hs_types.specs.TypedGraph.{IsTyped, name_at}
 use Rattle.hs_types.specs.ValidMatch.{IsFirst, NoneIsValid}
@@ -62,13 +62,13 @@ had_memory : (outcome : Outcome) → word_for outcome ≡ word.Memory → ⊥
 had_memory (Applied found new old gone) e = cc
 had_memory Missed e = cc
 
-pub one_exists : (rules : RuleSet) (opening : Graph) (request : Request) (called : ℕ) (rule : Rule) (answer : Option Match) → IsTyped (meta_of rules) opening →
-    rule_named rules request.call ≡ Some called → slice_get rules.rules called ≡ Some rule → IsRunnable opening rule → request.args ≡ no_args → AdditionsOnlyMake → IsFirst (meta_of rules) opening rule no_args answer →
+pub one_exists : (rules : Rules) (opening : Graph) (request : Request) (called : ℕ) (rule : Rule) (answer : Option Match) → IsTyped rules.meta opening →
+    rule_named rules request.call ≡ Some called → slice_get rules.rules called ≡ Some rule → IsRunnable opening rule → request.args ≡ no_args → AdditionsOnlyMake → IsFirst rules.meta opening rule no_args answer →
     (report : Report) × IsSerialReport rules opening ((request ∷ []) ∷ []) report × HadMemory report
 one_exists rules opening request called rule answer typed named found runs args adds first =
-    let outcome = outcome_of (meta_of rules) opening rule answer in
+    let outcome = outcome_of rules.meta opening rule answer in
     let tried : Tried = record { attempt = 0; rule = called; args = no_args; outcome = outcome; attempt_bound = lit< tt } in
-    let graph : ListGraph = record { meta = rules.meta; graph = after_outcome (meta_of rules) opening rule no_args outcome } in
+    let graph : ListGraph = record { meta = rules.meta; graph = after_outcome rules.meta opening rule no_args outcome } in
     let made : Made rules opening request rule tried = record {
       called = named;
       found = found;
@@ -76,7 +76,7 @@ one_exists rules opening request called rule answer typed named found runs args 
       tried_args = refl;
       first = refl;
       no_params = runs.no_params;
-      told = told adds (meta_of rules) opening rule answer typed runs first;
-      least = least_of (meta_of rules) opening rule answer typed runs first;
+      told = told adds rules.meta opening rule answer typed runs first;
+      least = least_of rules.meta opening rule answer typed runs first;
     } in
     (_, serial_one rules opening request rule tried graph made refl refl, All-one (λ (r : Reply). r.word ≡ word.Memory → ⊥) (first_reply outcome) (had_memory outcome))

@@ -16,9 +16,9 @@ use Rattle.hs_types.specs.declared.graph.ListGraph.{ListGraph}
 use Rattle.hs_types.specs.declared.matching.Match.{Match}
 use Rattle.hs_types.specs.declared.request.Request.{Request}
 use Rattle.hs_types.specs.declared.rule.Rule.{Rule}
-use Rattle.hs_types.specs.declared.rule_set.RuleSet.{RuleSet}
+use Rattle.hs_types.specs.Rules.{Rules}
 use Rattle.hs_types.specs.Arguments.{ArgsFit}
-use Rattle.hs_types.specs.Journal.{IsLawfulEntry, IsLawfulTry, OutcomeAsks, after_journal, after_outcome, match_named, meta_of, rule_of, tries_in}
+use Rattle.hs_types.specs.Journal.{IsLawfulEntry, IsLawfulTry, OutcomeAsks, after_journal, after_outcome, match_named, rule_of, tries_in}
 use Rattle.hs_types.specs.Arguments.{no_args}
 use Rattle.hs_expr.proofs.Lists.{All-one}
 use Rattle.hs_session.specs.declared.report.Reply.{Reply}
@@ -55,17 +55,17 @@ fit_none : ArgsFit [] no_args
 fit_none = record { names_rise = tt; each_given = All-nil _; each_taken = All-nil _ }
 
 -- What is known of the one attempt.
-pub record Made (rules : RuleSet) (opening : Graph) (request : Request) (rule : Rule) (tried : Tried) : Type 0 where
+pub record Made (rules : Rules) (opening : Graph) (request : Request) (rule : Rule) (tried : Tried) : Type 0 where
   pub called : rule_named rules request.call ≡ Some tried.rule
   pub found : rule_of rules tried ≡ Some rule
   pub asked_args : request.args ≡ no_args
   pub tried_args : tried.args ≡ no_args
   pub first : tried.attempt ≡ 0
   pub no_params : rule.params ≡ []
-  pub told : (asked : Cause) → OutcomeAsks (meta_of rules) opening rule no_args tried.outcome asked
-  pub least : IsLeastOutcome (meta_of rules) opening rule no_args tried.outcome
+  pub told : (asked : Cause) → OutcomeAsks rules.meta opening rule no_args tried.outcome asked
+  pub least : IsLeastOutcome rules.meta opening rule no_args tried.outcome
 
-lawful_try : (rules : RuleSet) (opening : Graph) (request : Request) (rule : Rule) (tried : Tried) → Made rules opening request rule tried → IsLawfulTry rules opening tried
+lawful_try : (rules : Rules) (opening : Graph) (request : Request) (rule : Rule) (tried : Tried) → Made rules opening request rule tried → IsLawfulTry rules opening tried
 lawful_try rules opening request rule tried made cause.Rule = rw (made.found, made.no_params, made.tried_args) fit_none
 lawful_try rules opening request rule tried made cause.Number = rw (made.found, made.tried_args) (made.told cause.Number)
 lawful_try rules opening request rule tried made cause.Match = rw (made.found, made.tried_args) (made.told cause.Match)
@@ -73,13 +73,13 @@ lawful_try rules opening request rule tried made cause.Valid = rw (made.found, m
 lawful_try rules opening request rule tried made cause.New = rw (made.found, made.tried_args) (made.told cause.New)
 lawful_try rules opening request rule tried made cause.Old = rw (made.found, made.tried_args) (made.told cause.Old)
 
-lawful_entry : (rules : RuleSet) (opening : Graph) (request : Request) (rule : Rule) (tried : Tried) → Made rules opening request rule tried → IsLawfulEntry rules [] opening 0 (first_entry tried)
+lawful_entry : (rules : Rules) (opening : Graph) (request : Request) (rule : Rule) (tried : Tried) → Made rules opening request rule tried → IsLawfulEntry rules [] opening 0 (first_entry tried)
 lawful_entry rules opening request rule tried made = record {
   numbered = record { at_its_place = refl; within_sessions = omega arith; requests_rise = All-nil _; tries_numbered = ap (λ n. n ∷ []) made.first };
   tries = (lawful_try rules opening request rule tried made, tt);
 }
 
-answer : (rules : RuleSet) (opening : Graph) (request : Request) (rule : Rule) (tried : Tried) → Made rules opening request rule tried →
+answer : (rules : Rules) (opening : Graph) (request : Request) (rule : Rule) (tried : Tried) → Made rules opening request rule tried →
     IsAnswer rules opening (first_entry tried ∷ []) (record { session = 0; number = 0; request = request }) (first_reply tried.outcome)
 answer rules opening request rule tried made = record {
   of_session = refl;
@@ -92,8 +92,8 @@ answer rules opening request rule tried made = record {
 }
 
 -- One attempt at the least match, or none where none is valid, makes a serial report.
-pub serial_one : (rules : RuleSet) (opening : Graph) (request : Request) (rule : Rule) (tried : Tried) (graph : ListGraph) → Made rules opening request rule tried →
-    graph.graph ≡ after_outcome (meta_of rules) opening rule no_args tried.outcome → arc_value graph.meta ≡ meta_of rules →
+pub serial_one : (rules : Rules) (opening : Graph) (request : Request) (rule : Rule) (tried : Tried) (graph : ListGraph) → Made rules opening request rule tried →
+    graph.graph ≡ after_outcome rules.meta opening rule no_args tried.outcome → arc_value graph.meta ≡ rules.meta →
     IsSerialReport rules opening ((request ∷ []) ∷ []) (record { journal = first_entry tried ∷ []; replies = first_reply tried.outcome ∷ []; graph = graph })
 serial_one rules opening request rule tried graph made after model = record {
   lawful = record {
@@ -116,7 +116,7 @@ serial_one rules opening request rule tried graph made after model = record {
     least (suc place) = tt
 
 -- The same of the outcome that the attempt carries.
-pub serial_told : (rules : RuleSet) (opening : Graph) (request : Request) (rule : Rule) (tried : Tried) (graph : ListGraph) (outcome : Outcome) → Made rules opening request rule tried → tried.outcome ≡ outcome →
-    graph.graph ≡ after_outcome (meta_of rules) opening rule no_args outcome → arc_value graph.meta ≡ meta_of rules →
+pub serial_told : (rules : Rules) (opening : Graph) (request : Request) (rule : Rule) (tried : Tried) (graph : ListGraph) (outcome : Outcome) → Made rules opening request rule tried → tried.outcome ≡ outcome →
+    graph.graph ≡ after_outcome rules.meta opening rule no_args outcome → arc_value graph.meta ≡ rules.meta →
     IsSerialReport rules opening ((request ∷ []) ∷ []) (record { journal = first_entry tried ∷ []; replies = first_reply outcome ∷ []; graph = graph })
-serial_told rules opening request rule tried graph outcome made same after model = rw (← same) (serial_one rules opening request rule tried graph made (after ∙ ap (after_outcome (meta_of rules) opening rule no_args) (sym same)) model)
+serial_told rules opening request rule tried graph outcome made same after model = rw (← same) (serial_one rules opening request rule tried graph made (after ∙ ap (after_outcome rules.meta opening rule no_args) (sym same)) model)

@@ -2,7 +2,6 @@
 
 ghost use Rattle.std.specs.Prelude.{◌≡◌, ◌∷◌, [], IsSome, IsSomeAnd, Some, slice_get};
 ghost use Rattle.std.specs.Arc.{arc_value};
-ghost use Rattle.hs_types.specs.Journal.{meta_of};
 ghost use Rattle.hs_types.specs.TypedGraph.{IsTyped};
 ghost use Rattle.hs_types.specs.Arguments.{no_args};
 ghost use Rattle.hs_session.specs.declared.report.Report.{Report};
@@ -20,8 +19,8 @@ use hs_types::{ListGraph, Request, RuleSet};
 /// serial report in which nothing wanted for memory: there is one, and two such reports have the
 /// same journal, replies and graph.
 pub fn one_serial_report(graph: &ListGraph, rules: &RuleSet, called: u16, request: &Request)
-    requires same_model { arc_value graph.now.meta ≡ meta_of rules.now }
-    requires typed { IsTyped (meta_of rules.now) graph.now.graph }
+    requires same_model { arc_value graph.now.meta ≡ rules.now.meta }
+    requires typed { IsTyped rules.now.meta graph.now.graph }
     requires called { rule_named rules.now request.now.call ≡ Some called }
     requires runnable { IsSomeAnd (slice_get rules.now.rules called) (IsRunnable graph.now.graph) }
     requires no_arguments { request.now.args ≡ no_args }

@@ -4,7 +4,7 @@ ghost use Rattle.std.specs.Prelude.{◌≡◌, ◌∷◌, [], IfOk, IsSome, IsSo
 ghost use Rattle.std.specs.Arc.{arc_value};
 ghost use Rattle.std.specs.List.{All, filter_map};
 ghost use Rattle.hs_types.specs.declared.entry.Cause.{Cause};
-ghost use Rattle.hs_types.specs.Journal.{OutcomeAsks, after_outcome, match_named, meta_of};
+ghost use Rattle.hs_types.specs.Journal.{OutcomeAsks, after_outcome, match_named};
 ghost use Rattle.hs_types.specs.RuleForm.{IsRule};
 ghost use Rattle.hs_types.specs.TypedGraph.{IsTyped, name_at};
 ghost use Rattle.hs_types.specs.ValidMatch.{IsLeast, IsValid};
@@ -41,8 +41,8 @@ pub fn run_serial(
     called: u16,
     request: &Request,
 ) -> Result<Report, AllocError>
-    requires same_model { arc_value graph.meta ≡ meta_of rules.now }
-    requires typed { IsTyped (meta_of rules.now) graph.graph }
+    requires same_model { arc_value graph.meta ≡ rules.now.meta }
+    requires typed { IsTyped rules.now.meta graph.graph }
     requires called { rule_named rules.now request.now.call ≡ Some called }
     requires runnable { IsSomeAnd (slice_get rules.now.rules called) (IsRunnable graph.graph) }
     requires no_arguments { request.now.args ≡ no_args }
@@ -68,7 +68,7 @@ pub fn run_serial(
 
 /// The report of a run in which nothing is asked for: the graph as it was.
 pub fn run_nothing(alloc: Global, graph: ListGraph) -> Report
-    ensures { (rules : RuleSet) → arc_value graph.meta ≡ meta_of rules
+    ensures { (rules : Rules) → arc_value graph.meta ≡ rules.meta
         → IsSerialReport rules graph.graph [] result }
 {
     Report {

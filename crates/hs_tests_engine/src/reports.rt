@@ -1,7 +1,7 @@
 //! Worked examples of the definitions of reports.
 
 ghost use Rattle.std.specs.Prelude.{◌≡◌, [], ◌∷◌};
-ghost use Rattle.hs_types.specs.declared.rule_set.RuleSet.{RuleSet};
+ghost use Rattle.hs_types.specs.Rules.{Rules};
 ghost use Rattle.hs_laws.specs.Bank.{add, adds, just_client, open_account, opens};
 ghost use Rattle.hs_session.specs.declared.report.Report.{Report};
 ghost use Rattle.hs_session.specs.declared.report.Word.TheVariants as word;
@@ -16,21 +16,21 @@ ghost use Rattle.hs_tests_engine.specs.Requests.{first_asked, new_account, openi
 pub fn reports_tried()
     ensures numbers { all_asked ((opening ∷ []) ∷ []) ≡ first_asked ∷ [] }
     ensures entries { entries_of first_asked (opens ∷ adds ∷ []) ≡ (0, opens) ∷ [] }
-    ensures answered { (set : RuleSet) → set.rules ≡ open_account ∷ add ∷ []
+    ensures answered { (set : Rules) → set.rules ≡ open_account ∷ add ∷ []
         → IsAnswer set just_client (opens ∷ adds ∷ []) first_asked
         (reply word.Ok (0 ∷ []) (new_account ∷ [])) }
-    ensures memory { (set : RuleSet) → set.rules ≡ open_account ∷ add ∷ []
+    ensures memory { (set : Rules) → set.rules ≡ open_account ∷ add ∷ []
         → IsAnswer set just_client (opens ∷ adds ∷ []) first_asked (reply word.Memory (0 ∷ []) []) }
-    ensures other_word { (set : RuleSet) → IsAnswer set just_client (opens ∷ adds ∷ []) first_asked
+    ensures other_word { (set : Rules) → IsAnswer set just_client (opens ∷ adds ∷ []) first_asked
         (reply word.NoMatch (0 ∷ []) []) → ⊥ }
-    ensures other_place { (set : RuleSet) → IsAnswer set just_client (opens ∷ adds ∷ []) first_asked
+    ensures other_place { (set : Rules) → IsAnswer set just_client (opens ∷ adds ∷ []) first_asked
         (reply word.Ok (1 ∷ []) (new_account ∷ [])) → ⊥ }
-    ensures no_out { (set : RuleSet) → set.rules ≡ open_account ∷ add ∷ []
+    ensures no_out { (set : Rules) → set.rules ≡ open_account ∷ add ∷ []
         → IsAnswer set just_client (opens ∷ adds ∷ []) first_asked (reply word.Ok (0 ∷ []) []) → ⊥ }
-    ensures no_reply { (set : RuleSet) (report : Report) → report.replies ≡ []
+    ensures no_reply { (set : Rules) (report : Report) → report.replies ≡ []
         → IsLawfulReport set just_client ((opening ∷ []) ∷ []) report → ⊥ }
-    ensures not_asked { (set : RuleSet) (report : Report) → report.journal ≡ opens ∷ []
+    ensures not_asked { (set : Rules) (report : Report) → report.journal ≡ opens ∷ []
         → IsLawfulReport set just_client [] report → ⊥ }
-    ensures other_order { (set : RuleSet) (report : Report) → report.journal ≡ adds ∷ opens ∷ []
+    ensures other_order { (set : Rules) (report : Report) → report.journal ≡ adds ∷ opens ∷ []
         → IsSerialReport set just_client ((opening ∷ opening ∷ []) ∷ []) report → ⊥ }
 {}

@@ -1,6 +1,7 @@
 //! Requests.
 
-ghost use Rattle.std.specs.Prelude.{◌≤◌};
+ghost use Rattle.std.specs.Prelude.{◌≡◌, ◌≤◌, map, true};
+ghost use Rattle.hs_expr.specs.Lexicographic.{rises};
 ghost use Rattle.std.proofs.Common.{rules};
 
 use hs_expr::{List, Plain, Text, Value};
@@ -23,6 +24,20 @@ pub struct NamedArg {
 #[derive(Clone, PartialEq, Eq, Debug, Drop)]
 pub struct Args {
     pub list: List<NamedArg>,
+}
+
+/// An out parameter with the name of its object.
+#[derive(Debug, Drop)]
+pub struct Out {
+    pub parameter: Text,
+    pub object: Text,
+}
+
+/// What a call gives back: the out parameters that have a value, each name once, in byte order.
+#[derive(Debug, Drop)]
+pub struct Outs {
+    pub list: List<Out>,
+    ghost in_order: { rises (map (λ out. out.parameter) list) ≡ true },
 }
 
 /// What a session asks for: a call of a rule or a unit.

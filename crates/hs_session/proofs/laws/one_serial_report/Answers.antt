@@ -2,7 +2,6 @@ use Rattle.std.proofs.Common.{◌≡◌, IsSomeAnd, ◌∙◌, subst}
 use Rattle.std.specs.Prelude.{Option}
 use Rattle.hs_types.specs.declared.meta.Metamodel.{Metamodel}
 use Rattle.hs_types.specs.declared.rule.Rule.{Rule}
-use Rattle.hs_types.specs.Journal.{meta_of}
 use Rattle.hs_types.specs.ValidMatch.{IsFirst}
 use Rattle.hs_types.specs.Arguments.{no_args}
 use Rattle.hs_session.specs.Runnable.{IsRunnable}
@@ -14,7 +13,7 @@ pub returns-clause-exists : goal.returns-clause-exists
 returns-clause-exists c =
     let rules = c.args.rules.now in
     let rule = c.rule_at.result.now in
-    let model : c.deref.result.now ≡ meta_of rules = c.deref.ensures ∙ c.requires.same_model in
+    let model : c.deref.result.now ≡ rules.meta = c.deref.ensures ∙ c.requires.same_model in
     let runs : IsRunnable c.args.graph.now.graph rule = subst (λ (r : Option Rule). IsSomeAnd r (IsRunnable c.args.graph.now.graph)) c.rule_at.ensures c.requires.runnable in
     let answer = c.is_applicable.ensures in
     one_exists rules c.args.graph.now.graph c.args.request.now c.args.called rule answer.0 c.requires.typed c.requires.called c.rule_at.ensures runs c.requires.no_arguments
