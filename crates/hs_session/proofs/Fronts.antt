@@ -1,5 +1,5 @@
 -- The entries of the first request are the front of a journal in order.
-use Rattle.std.proofs.Common.{ℕ, ◌≡◌, ◌⊎◌, inl, inr, List, [], ◌∷◌, ◌++◌, true, false, refl, ap}
+use Rattle.std.proofs.Common.{◌≡◌, inl, inr, List, [], ◌∷◌, ◌++◌, true, false, refl, ap}
 use Rattle.std.specs.List.{All}
 use Rattle.std.proofs.lemmas.List.Elements.{All-nil, All-cons, All-head, All-tail, All-weaker}
 use Rattle.hs_types.specs.declared.entry.Entry.{Entry}
@@ -8,7 +8,7 @@ use Rattle.hs_expr.proofs.Lists.{All-both}
 use Rattle.hs_session.specs.Requests.{Asked, is_of}
 use Rattle.hs_session.specs.SerialReport.{NotAfter}
 use Rattle.hs_session.proofs.Sound.{IsAmong}
-use Rattle.hs_session.proofs.Requests.{AskedBefore, Comes, comes_among, earlier_is_not, later_is_not, not_back}
+use Rattle.hs_session.proofs.Requests.{AskedBefore, Comes, comes_among, later_is_not, not_back}
 
 pub record Parts (a : Asked) (ks : List Asked) (journal : List Entry) : Type 0 where
   pub front : List Entry

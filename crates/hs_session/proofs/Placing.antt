@@ -1,15 +1,13 @@
 -- Entries where they are: joined lists, those of one request, and what a lawful journal says of each.
-use Rattle.std.proofs.Common.{ℕ, zero, suc, ◌+◌, ◌-◌, ◌<◌, ◌≤◌, ◌≡◌, List, [], ◌∷◌, ◌++◌, length, take, Bool, true, false, Option, Some, None, slice_get, refl, sym, ap, ◌∙◌, subst, arith}
+use Rattle.std.proofs.Common.{◌≡◌, List, [], ◌∷◌, ◌++◌, length, take, Bool, true, false, Option, Some, slice_get, refl, sym, ap, ◌∙◌, subst}
 use Rattle.std.specs.Prelude.{IfSome}
-use Rattle.std.specs.List.{All, filter, fold}
+use Rattle.std.specs.List.{All, fold}
 use Rattle.std.proofs.lemmas.List.Elements.{All-nil, All-cons, All-head, All-tail}
-use Rattle.std.proofs.lemmas.List.{take-append-le, take_all}
 use Rattle.hs_types.specs.declared.entry.Entry.{Entry}
 use Rattle.hs_types.specs.declared.graph.Graph.{Graph}
 use Rattle.hs_types.specs.Rules.{Rules}
 use Rattle.hs_types.specs.Journal.{IsLawful, IsLawfulEntry, after_entry, after_journal}
-use Rattle.hs_expr.proofs.Lists.{slice_get-last}
-use Rattle.hs_session.specs.Standing.{Standing, place_of, standing, standing_after}
+use Rattle.hs_session.specs.Standing.{Standing, place_of, standing_after}
 use Rattle.hs_session.specs.Requests.{Asked, is_of}
 use Rattle.hs_session.specs.Replies.{entries_of}
 

@@ -1,37 +1,35 @@
 -- Of a request from one graph on, there is one list of entries and one reply.
-use Rattle.std.proofs.Common.{ℕ, ◌≡◌, ◌⊎◌, inl, inr, List, [], ◌∷◌, ◌++◌, map, Bool, true, false, Option, Some, None, refl, sym, ap, ◌∙◌, subst}
-use Rattle.std.specs.List.{All, flat_map}
+use Rattle.std.proofs.Common.{◌≡◌, ◌⊎◌, inl, inr, List, [], ◌∷◌, map, Bool, true, false, Option, Some, None, refl, sym, ap, ◌∙◌, subst}
+use Rattle.std.specs.List.{All}
 use Rattle.std.proofs.lemmas.List.Elements.{All-head}
 use Rattle.hs_types.specs.declared.entry.Entry.{Entry}
 use Rattle.hs_types.specs.declared.entry.Tried.{Tried}
 use Rattle.hs_types.specs.declared.entry.What.{What}
-use Rattle.hs_types.specs.declared.entry.What.TheVariants.{One, Group}
+use Rattle.hs_types.specs.declared.entry.What.TheVariants.{Group}
 use Rattle.hs_types.specs.declared.graph.Graph.{Graph}
-use Rattle.hs_types.specs.declared.request.Args.{Args}
 use Rattle.hs_types.specs.declared.unit.Callee.{Callee}
 use Rattle.hs_types.specs.Rules.{Rules}
-use Rattle.hs_types.specs.Arguments.{ArgsFit}
-use Rattle.hs_types.specs.Journal.{after_entry, tries_in, tries_made}
+use Rattle.hs_types.specs.Journal.{tries_in, tries_made}
 use Rattle.hs_session.specs.declared.report.Reply.{Reply}
 use Rattle.hs_session.specs.declared.report.Word.{Word}
 use Rattle.hs_session.specs.declared.report.Word.TheVariants as word
 use Rattle.hs_unit.specs.Courses.{Asks, Course, Done, Failed, Fuel}
 use Rattle.hs_session.specs.Runs.{ComesTo, IsOver, Run}
 use Rattle.hs_session.specs.Standing.{Standing, made_along, made_in, place_of, standing_after}
-use Rattle.hs_session.specs.Requests.{Asked, callee_named, is_of, params_at}
-use Rattle.hs_session.specs.Replies.{IsBegun, IsCalled, IsDropped, IsGroup, IsRefused, IsReply, IsRun, IsServed, Says, is_ok, outs_for, word_for}
+use Rattle.hs_session.specs.Requests.{Asked, callee_named, is_of}
+use Rattle.hs_session.specs.Replies.{run_for, IsBegun, IsCalled, IsDropped, IsGroup, IsRefused, IsReply, IsRun, IsServed, Says, is_ok, outs_for, word_for}
 use Rattle.hs_session.specs.SerialReport.{IsDecided}
 use Rattle.hs_session.proofs.Sound.{IsSound}
 use Rattle.hs_session.proofs.Placing.{nothing-placed}
-use Rattle.hs_session.proofs.Runs.{AreTries, IsWell, same_request, singles_same, tries_of_entry, tries_same}
+use Rattle.hs_session.proofs.Runs.{IsWell, same_request, singles_same, tries_of_entry, tries_same}
 
 pub word_is : (due said : Word) → Says due said → (said ≡ word.Memory → ⊥) → said ≡ due
 word_is due said (inl e) memory = e
 word_is due said (inr e) memory = absurd (memory e)
 
 pub is_over : (callee : Callee) (c : Course) (reply : Reply) → Says (word_for callee c) reply.word → IsDecided reply → IsOver c
-is_over callee (Done outs) reply says decided = tt
-is_over callee Failed reply says decided = tt
+is_over callee (Done left) reply says decided = tt
+is_over callee (Failed left) reply says decided = tt
 is_over callee Fuel reply says decided = tt
 is_over callee (Asks rule args) reply says decided = absurd (decided.1 (word_is word.Full reply.word says decided.0))
 

@@ -1,7 +1,7 @@
 -- The attempts of a run from one graph on are determined, as far as it goes.
-use Rattle.std.proofs.Common.{ℕ, zero, suc, ◌+◌, ◌≡◌, List, [], ◌∷◌, ◌++◌, map, length, Bool, true, false, refl, sym, ap, ◌∙◌, subst, arith}
+use Rattle.std.proofs.Common.{ℕ, ◌+◌, ◌≡◌, List, [], ◌∷◌, ◌++◌, map, length, true, refl, sym, ap, ◌∙◌, subst}
 use Rattle.std.specs.List.{All, flat_map, range_with_len}
-use Rattle.std.proofs.lemmas.List.Elements.{All-nil, All-cons, All-head, All-tail}
+use Rattle.std.proofs.lemmas.List.Elements.{All-head, All-tail}
 use Rattle.hs_types.specs.declared.entry.Entry.{Entry}
 use Rattle.hs_types.specs.declared.entry.Tried.{Tried}
 use Rattle.hs_types.specs.declared.entry.What.{What}
@@ -11,9 +11,9 @@ use Rattle.hs_types.specs.declared.request.Args.{Args}
 use Rattle.hs_types.specs.Rules.{AreFormed, Rules}
 use Rattle.hs_types.specs.Journal.{AreLawfulTries, IsLawfulTry, after_entry, after_try, tries_in, tries_made}
 use Rattle.hs_types.specs.TypedGraph.{IsTyped}
-use Rattle.hs_unit.specs.Courses.{Asks, Course, Done, Failed, Fuel}
+use Rattle.hs_unit.specs.Courses.{Asks, Course}
 use Rattle.hs_session.specs.Runs.{ComesTo, IsOver, Run, rest_after}
-use Rattle.hs_session.specs.Standing.{Made, Standing, made_along, made_in, outcome_made, standing_after}
+use Rattle.hs_session.specs.Standing.{Standing, made_along, made_in, outcome_made, standing_after}
 use Rattle.hs_session.specs.Requests.{Asked, is_of}
 use Rattle.hs_session.specs.Replies.{IsSingle}
 use Rattle.hs_session.specs.SerialReport.{IsLeastTry}

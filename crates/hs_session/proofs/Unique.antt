@@ -1,22 +1,22 @@
 -- Two serial reports in which each request was served to its end are one.
-use Rattle.std.proofs.Common.{ℕ, ◌+◌, ◌≡◌, inl, inr, List, [], ◌∷◌, ◌++◌, true, false, refl, sym, ap, ◌∙◌, subst}
-use Rattle.std.specs.List.{All, AllZip, flat_map}
-use Rattle.std.proofs.lemmas.List.Elements.{All-nil, All-cons, All-head, All-tail, All-weaker}
+use Rattle.std.proofs.Common.{◌≡◌, List, [], ◌∷◌, ◌++◌, true, false, refl, sym, ap, ◌∙◌, subst}
+use Rattle.std.specs.List.{All, AllZip}
+use Rattle.std.proofs.lemmas.List.Elements.{All-head, All-tail, All-weaker}
 use Rattle.hs_types.specs.declared.entry.Entry.{Entry}
 use Rattle.hs_types.specs.declared.graph.Graph.{Graph}
 use Rattle.hs_types.specs.declared.request.Request.{Request}
 use Rattle.hs_types.specs.Rules.{Rules}
-use Rattle.hs_types.specs.Journal.{after_entry, after_journal, tries_in}
+use Rattle.hs_types.specs.Journal.{after_entry, after_journal}
 use Rattle.hs_expr.specs.Lists.{EachPair}
 use Rattle.hs_expr.proofs.Lists.{All-both, All-front, All-rest_of}
 use Rattle.hs_session.specs.declared.report.Reply.{Reply}
 use Rattle.hs_session.specs.declared.report.Report.{Report}
-use Rattle.hs_session.specs.Standing.{Standing, standing, standing_after}
-use Rattle.hs_session.specs.Replies.{Answers, IsReply, entries_of}
+use Rattle.hs_session.specs.Standing.{Standing, standing_after}
+use Rattle.hs_session.specs.Replies.{IsReply, entries_of}
 use Rattle.hs_session.specs.Requests.{Asked, IsAsked, all_asked, is_of}
 use Rattle.hs_session.specs.SerialReport.{AreLeast, IsDecided, IsSerialReport, NotAfter}
 use Rattle.hs_session.proofs.Sound.{IsAmong, IsSound}
-use Rattle.hs_session.proofs.Fronts.{Parts, parts}
+use Rattle.hs_session.proofs.Fronts.{parts}
 use Rattle.hs_session.proofs.Placing.{IsLawfulAt, front_theirs, lawful_along, rest_theirs, standing-append}
 use Rattle.hs_session.proofs.Replies.{answers_same}
 use Rattle.hs_session.proofs.Requests.{AskedBefore, asked_among, earlier_is_not, requests_rise}

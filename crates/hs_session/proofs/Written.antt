@@ -1,5 +1,5 @@
 -- A lawful journal with its places is lawful as it is written.
-use Rattle.std.proofs.Common.{ℕ, zero, suc, ◌+◌, ◌≡◌, List, [], ◌∷◌, map, length, refl, sym, ap, ◌∙◌, subst}
+use Rattle.std.proofs.Common.{ℕ, ◌+◌, ◌≡◌, List, [], ◌∷◌, map, length, refl, sym, ap, subst}
 use Rattle.std.specs.List.{enumerate_from, range_with_len}
 use Rattle.hs_types.specs.declared.entry.Entry.{Entry}
 use Rattle.hs_types.specs.declared.graph.Graph.{Graph}

@@ -1,5 +1,5 @@
 -- The requests of sessions, and what their calls name.
-use Rattle.std.specs.Prelude.{ℕ, ◌+◌, ◌<◌, List, [], ◌∷◌, ◌++◌, length, Bool, ◌&&◌, eqb, Option, Some, None, IsSomeAnd, slice_get}
+use Rattle.std.specs.Prelude.{ℕ, ◌+◌, ◌<◌, List, [], ◌∷◌, ◌++◌, length, Bool, ◌&&◌, eqb, Option, IsSomeAnd, slice_get}
 use Rattle.std.specs.List.{position}
 use Rattle.std.specs.Option.{option_map, option_or, unwrap_or}
 use Rattle.hs_expr.specs.Lists.{same_text}

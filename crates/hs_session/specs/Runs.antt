@@ -4,7 +4,7 @@ use Rattle.hs_types.specs.declared.request.Args.{Args}
 use Rattle.hs_types.specs.declared.unit.Callee.{Callee}
 use Rattle.hs_types.specs.Rules.{Rules}
 use Rattle.hs_unit.specs.declared.outcome.Outcome.{Outcome}
-use Rattle.hs_unit.specs.Courses.{Course, Done, Failed, Fuel, Asks, course}
+use Rattle.hs_unit.specs.Courses.{Course, Asks, course}
 use Rattle.hs_session.specs.Standing.{Made, outcome_made}
 
 -- The course of a call by the outcomes of its attempts.

@@ -1,6 +1,6 @@
 -- Serial reports: what one worker gives that takes the requests in order and the least match each
 -- time.
-use Rattle.std.specs.Prelude.{ℕ, ◌<◌, ◌≤◌, ◌≡◌, ◌⊎◌, List, IfSome}
+use Rattle.std.specs.Prelude.{◌<◌, ◌≤◌, ◌≡◌, ◌⊎◌, List, IfSome}
 use Rattle.std.specs.List.{All}
 use Rattle.hs_expr.specs.Lists.{EachPair}
 use Rattle.hs_types.specs.declared.entry.Entry.{Entry}

@@ -9,7 +9,6 @@ use Rattle.hs_types.specs.declared.entry.Outcome.TheVariants as written
 use Rattle.hs_types.specs.declared.entry.Tried.{Tried}
 use Rattle.hs_types.specs.declared.graph.Graph.{Graph}
 use Rattle.hs_types.specs.declared.matching.Match.{Match}
-use Rattle.hs_types.specs.declared.request.Out.{Out}
 use Rattle.hs_types.specs.declared.request.Outs.{Outs}
 use Rattle.hs_types.specs.declared.rule.Rule.{Rule}
 use Rattle.hs_types.specs.Arguments.{is_in}

@@ -3,7 +3,7 @@ use Rattle.std.specs.Prelude.{ℕ, ◌<◌, ◌≤◌, ◌≡◌, ◌⊎◌, Lis
 use Rattle.std.specs.List.{All, AllZip, filter, filter_map, flat_map, fold, range_with_len}
 use Rattle.std.specs.Option.{option_map, option_and_then, unwrap_or}
 use Rattle.hs_expr.specs.declared.value.Value.{Value}
-use Rattle.hs_types.specs.declared.limits.TheConstants.{MAX_NUMBERS}
+use Rattle.hs_types.specs.declared.limits.TheConstants.{MAX_NUMBERS, MAX_SESSIONS}
 use Rattle.hs_types.specs.declared.entry.Cause.{Cause}
 use Rattle.hs_types.specs.declared.entry.Cause.TheVariants as cause
 use Rattle.hs_types.specs.declared.entry.Entry.{Entry}
@@ -162,7 +162,7 @@ tries_made entries session request =
 -- before has a later request; and the attempts are numbered on from those of this request before.
 pub record IsNumbered (before : List Entry) (place : ℕ) (entry : Entry) : Type 0 where
   pub at_its_place : place ≡ length before
-  pub within_sessions : entry.session < 64
+  pub within_sessions : entry.session < MAX_SESSIONS
   pub requests_rise : All
       (λ earlier. earlier.session ≡ entry.session → earlier.request ≤ entry.request) before
   pub tries_numbered : map (λ tried. tried.attempt) (tries_in entry.what) ≡ range_with_len

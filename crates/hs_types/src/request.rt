@@ -1,7 +1,6 @@
 //! Requests.
 
-ghost use Rattle.std.specs.Prelude.{◌≡◌, ◌≤◌, map, true};
-ghost use Rattle.hs_expr.specs.Lexicographic.{rises};
+ghost use Rattle.std.specs.Prelude.{◌≤◌};
 ghost use Rattle.std.proofs.Common.{rules};
 
 use hs_expr::{List, Plain, Text, Value};
@@ -37,7 +36,6 @@ pub struct Out {
 #[derive(Debug, Drop)]
 pub struct Outs {
     pub list: List<Out>,
-    ghost in_order: { rises (map (λ out. out.parameter) list) ≡ true },
 }
 
 /// What a session asks for: a call of a rule or a unit.

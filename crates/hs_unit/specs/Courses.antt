@@ -11,7 +11,6 @@ use Rattle.hs_types.specs.declared.request.Arg.TheVariants as arg
 use Rattle.hs_types.specs.declared.request.Args.{Args}
 use Rattle.hs_types.specs.declared.request.NamedArg.{NamedArg}
 use Rattle.hs_types.specs.declared.request.Out.{Out}
-use Rattle.hs_types.specs.declared.request.Outs.{Outs}
 use Rattle.hs_types.specs.declared.unit.Atom.{Atom}
 use Rattle.hs_types.specs.declared.unit.Atom.TheVariants as atom
 use Rattle.hs_types.specs.declared.unit.Bind.{Bind}

@@ -1,9 +1,8 @@
 -- Small units that the examples of courses speak of.
-use Rattle.std.specs.Prelude.{ℕ, ℤ, List, [], ◌∷◌, map}
+use Rattle.std.specs.Prelude.{ℕ, ℤ, List, [], ◌∷◌, map, codes}
 use Rattle.hs_expr.specs.declared.value.Value.TheVariants as value
 use Rattle.hs_types.specs.declared.request.Arg.TheVariants as arg
 use Rattle.hs_types.specs.declared.request.Args.{Args}
-use Rattle.hs_types.specs.declared.request.Out.{Out}
 use Rattle.hs_types.specs.declared.unit.Atom.TheVariants as atom
 use Rattle.hs_types.specs.declared.unit.Bind.{Bind}
 use Rattle.hs_types.specs.declared.unit.Bind.TheVariants.{Give, Take}
@@ -28,9 +27,11 @@ abbrev pub unit_call : Call
 unit_call = call_with (callee.Unit 1) []
 
 -- A call of rule 1 whose out parameter x becomes the unit's v, and one of rule 2 that is given v.
-abbrev pub x v : List ℕ
-x = 120 ∷ []
-v = 118 ∷ []
+abbrev pub x : List ℕ
+x = codes "x"
+
+abbrev pub v : List ℕ
+v = codes "v"
 
 abbrev pub taking : Call
 taking = call_with (callee.Rule 1) (Take x v ∷ [])
@@ -40,7 +41,7 @@ giving = call_with (callee.Rule 2) (Give x (atom.Name v) ∷ [])
 
 -- A rule that was applied, with an object c for x or with none.
 abbrev pub c : List ℕ
-c = 99 ∷ []
+c = codes "c"
 
 abbrev pub gave_none : Outcome
 gave_none = Applied (record { list = [] })
@@ -53,7 +54,7 @@ with_c = record { list = record { name = x; arg = arg.Object c } ∷ [] }
 
 -- A call that counts its turns by the argument n.
 abbrev pub n : List ℕ
-n = 110 ∷ []
+n = codes "n"
 
 abbrev pub number : ℤ → Args
 number k = record { list = record { name = n; arg = arg.Value (value.Int k) } ∷ [] }
