@@ -19,7 +19,7 @@ use hs_input::{Input, Refusal, read_input};
 use hs_json::problems_text;
 use hs_session::{Report, run_nothing, run_serial};
 use hs_text::print;
-use hs_types::{ListGraph, Request, RuleSet, rule_sets_are_formed};
+use hs_types::{ListGraph, Request, RuleSet};
 use std::alloc::{AllocError, Global};
 
 /// What a command gives for a bundle.
@@ -105,7 +105,7 @@ fn ran(
         × (sessions_asked rules.now.rules rules.now.units found journal ≡ Some sessions.now) }
     ensures { IfOk result (IsSerialReport rules.now graph.graph sessions.now) }
 {
-    rule_sets_are_formed();
+    rules.are_formed();
     match first_request(sessions) {
         Some(request) => run_serial(alloc, graph, rules, 0, request),
         None => Ok(run_nothing(alloc, graph)),
