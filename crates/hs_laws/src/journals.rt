@@ -41,17 +41,21 @@ pub fn journals_go_on()
         ≡ after_entry rules (after_journal rules opening entries) entry }
 {}
 
-/// A written journal isn't both lawful and, for some cause, unlawful somewhere; and there is at
-/// most one first entry and one first cause by which it isn't lawful.
+/// A written journal is lawful, or it has one first entry and one first cause by which it isn't, and
+/// not both. (That it is one of the two is said without a choice: it isn't neither.)
 pub fn lawful_or_not()
     ensures one_cause { (rules : Rules) (opening : Graph) (written : List (ℕ × Entry)) (p q : ℕ)
         (c d : Cause)
         → IsUnlawfulAt rules opening written p c → IsUnlawfulAt rules opening written q d
         → (p ≡ q) × (c ≡ d) }
-    ensures not_both { (rules : Rules) (opening : Graph) (written : List (ℕ × Entry)) (position : ℕ)
-        (asked : Cause)
-        → IsUnlawfulAt rules opening written position asked → IsLawfulWritten rules opening written
-        → ⊥ }
+    ensures not_both { (rules : Rules) (opening : Graph) (written : List (ℕ × Entry))
+        (position : ℕ) (asked : Cause)
+        → IsUnlawfulAt rules opening written position asked
+        → IsLawfulWritten rules opening written → ⊥ }
+    ensures not_neither { (rules : Rules) (opening : Graph) (written : List (ℕ × Entry))
+        → ((position : ℕ) (asked : Cause)
+            → IsUnlawfulAt rules opening written position asked → ⊥)
+        → (IsLawfulWritten rules opening written → ⊥) → ⊥ }
 {}
 
 /// An attempt that missed leaves the graph as it was.

@@ -6,3 +6,4 @@ pub mod Replies
 pub mod LawfulReport
 pub mod SerialReport
 pub mod Runnable
+pub mod Samples

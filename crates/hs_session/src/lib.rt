@@ -6,10 +6,12 @@
 //! takes today's requests, and these have one ([`one_serial_report`]).
 #![tactic(auto)]
 
+mod examples;
 mod laws;
 mod report;
 mod serial;
 
+pub use examples::{full_tried, outs_tried, replies_tried, reports_tried};
 pub use laws::{
     lawful_reports_replay, one_serial_report, rules_are_tried_once, serial_reports_are_one,
 };

@@ -20,6 +20,7 @@ use Rattle.hs_types.specs.declared.graph.Graph.{Graph}
 use Rattle.hs_types.specs.Journal.{Asks, IsLawfulEntry, IsNumbered, after_entry, rank, tries_in}
 use Rattle.hs_expr.proofs.Evaluations.{values}
 use Rattle.hs_laws.specs.Bank.{add, adds, args_of, at_match, balance, bank_rules, client_with_new_account, client_with_one, just_client, model, number, object_arg, open_account, open_args, opens, opens_missed, opens_misnamed, opens_and_drops, set_balance, tried}
+use Rattle.hs_laws.proofs.BankTries.{adds_lawful, opens_lawful, opens_valid}
 use Rattle.hs_laws.proofs.examples.journals_tried.Goals as goal
 
 opened : after_entry bank_rules just_client opens ≡ client_with_new_account
@@ -30,56 +31,6 @@ added = simp values refl
 
 pub returns-clause-graph : goal.returns-clause-graph
 returns-clause-graph c = added
-
-opens_valid : IsValid model just_client open_account (args_of (object_arg (codes "c") (codes "c1") ∷ [])) (at_match (0 ∷ []) [])
-opens_valid = record {
-  plain = record { nodes_fit = (itself 0, tt); edges_fit = tt; nodes_differ = search rules; edges_differ = search rules };
-  follows = search rules;
-  none_dangle = search rules;
-  wheres = search rules;
-  sets_fit = search rules;
-  forbids = search rules;
-  needs = search rules;
-  copies = search rules;
-  copies_fit = search rules;
-  none_touch = search rules;
-}
-
-adds_valid : IsValid model client_with_new_account add (args_of (object_arg (codes "a") (codes "#0") ∷ [])) (at_match (1 ∷ []) [])
-adds_valid = record {
-  plain = record { nodes_fit = (itself 1, tt); edges_fit = tt; nodes_differ = search rules; edges_differ = search rules };
-  follows = search rules;
-  none_dangle = search rules;
-  wheres = search rules;
-  sets_fit = All-one F (set_balance 0 (expr.Binary sign.Plus (balance 0) (number (pos 1)))) (simp values refl);
-  forbids = search rules;
-  needs = search rules;
-  copies = search rules;
-  copies_fit = search rules;
-  none_touch = search rules;
-}
-  where
-    env : Env
-    env = env_of client_with_new_account add (args_of (object_arg (codes "a") (codes "#0") ∷ [])) add.shape.nodes (1 ∷ [])
-
-    F : SetItem → Type 0
-    F item = IsSomeAnd (value_of env item.value) (λ v. fits model item.attribute v ≡ true)
-
-opens_lawful : (asked : Cause) → Asks bank_rules just_client (tried 0 (args_of (object_arg (codes "c") (codes "c1") ∷ [])) (Applied (record { nodes = codes "c1" ∷ []; edges = []; copies = [] }) (codes "#0" ∷ []) [] [])) asked
-opens_lawful cause.Number = tt
-opens_lawful cause.Rule = (search rules)
-opens_lawful cause.Match = opens_valid
-opens_lawful cause.Valid = tt
-opens_lawful cause.New = (refl, (lit≤ tt, lit≤ tt))
-opens_lawful cause.Old = (refl, tt)
-
-adds_lawful : (asked : Cause) → Asks bank_rules client_with_new_account (tried 1 (args_of (object_arg (codes "a") (codes "#0") ∷ [])) (Applied (record { nodes = codes "#0" ∷ []; edges = []; copies = [] }) [] (value.Int (pos 0) ∷ []) [])) asked
-adds_lawful cause.Number = tt
-adds_lawful cause.Rule = (search rules)
-adds_lawful cause.Match = adds_valid
-adds_lawful cause.Valid = tt
-adds_lawful cause.New = (refl, (lit≤ tt, lit≤ tt))
-adds_lawful cause.Old = (simp values refl, tt)
 
 pub returns-clause-lawful : goal.returns-clause-lawful
 returns-clause-lawful c zero = record { numbered = record { at_its_place = refl; within_sessions = lit< tt; requests_rise = search rules; tries_numbered = refl }; tries = (opens_lawful, tt) }
