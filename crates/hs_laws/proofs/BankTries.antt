@@ -1,26 +1,20 @@
 -- Attempts of the bank's journal: an account is opened, and added to.
-use Rattle.std.proofs.Common.{suc, zero, ◌≡◌, [], ◌∷◌, IsSomeAnd, codes, pos, true, refl, sym, subst, rules, lit<, lit≤, ◌<◌, ◌≤◌, inl, map, length, get_or, arith, ap, ℕ, List}
+use Rattle.std.proofs.Common.{◌≡◌, [], ◌∷◌, IsSomeAnd, codes, pos, true, refl, rules, lit≤}
 use Rattle.hs_expr.specs.declared.expr.Expr.TheVariants as expr
 use Rattle.hs_expr.specs.declared.expr.Sign.TheVariants as sign
 use Rattle.hs_expr.specs.declared.value.Value.TheVariants as value
 use Rattle.hs_expr.specs.Evaluation.{Env, value_of}
 use Rattle.hs_types.specs.declared.entry.Cause.{Cause}
 use Rattle.hs_types.specs.declared.entry.Cause.TheVariants as cause
-use Rattle.hs_types.specs.declared.entry.Entry.{Entry}
-use Rattle.hs_types.specs.declared.entry.Outcome.{Outcome}
-use Rattle.hs_types.specs.declared.entry.Outcome.TheVariants.{Applied, Missed}
-use Rattle.hs_types.specs.declared.entry.Tried.{Tried}
-use Rattle.std.specs.List.{flat_map, range_with_len}
-use Rattle.std.proofs.lemmas.List.Elements.{All-nil}
+use Rattle.hs_types.specs.declared.entry.Outcome.TheVariants.{Applied}
 use Rattle.hs_types.specs.declared.rule.SetItem.{SetItem}
 use Rattle.hs_types.specs.Conditions.{env_of}
 use Rattle.hs_types.specs.Metamodel.{fits, itself}
 use Rattle.hs_types.specs.ValidMatch.{IsValid}
-use Rattle.hs_expr.proofs.Lists.{All-one, below_differs}
-use Rattle.hs_types.specs.declared.graph.Graph.{Graph}
-use Rattle.hs_types.specs.Journal.{Asks, IsLawfulEntry, IsNumbered, after_entry, rank, tries_in}
+use Rattle.hs_expr.proofs.Lists.{All-one}
+use Rattle.hs_types.specs.Journal.{Asks}
 use Rattle.hs_expr.proofs.Evaluations.{values}
-use Rattle.hs_laws.specs.Bank.{add, adds, args_of, at_match, balance, bank_rules, client_with_new_account, client_with_one, just_client, model, number, object_arg, open_account, open_args, opens, opens_missed, opens_misnamed, opens_and_drops, set_balance, tried}
+use Rattle.hs_laws.specs.Bank.{add, args_of, at_match, balance, bank_rules, client_with_new_account, just_client, model, number, object_arg, open_account, set_balance, tried}
 
 pub opens_valid : IsValid model just_client open_account (args_of (object_arg (codes "c") (codes "c1") ∷ [])) (at_match (0 ∷ []) [])
 opens_valid = record {

@@ -1,5 +1,5 @@
 -- Attempts at the rule that makes a client, in a graph without edges.
-use Rattle.std.proofs.Common.{ℕ, ◌<◌, ◌≡◌, List, [], ◌∷◌, codes, refl, rules, lit<, lit≤, arith}
+use Rattle.std.proofs.Common.{ℕ, ◌<◌, List, [], codes, refl, rules, lit≤, arith}
 use Rattle.hs_types.specs.declared.entry.Cause.{Cause}
 use Rattle.hs_types.specs.declared.entry.Cause.TheVariants as cause
 use Rattle.hs_types.specs.declared.graph.Graph.{Graph}

@@ -1,5 +1,5 @@
 -- A written journal that isn't lawful has a first entry and a cause by which it isn't.
-use Rattle.std.proofs.Common.{ℕ, suc, zero, ◌+◌, ◌<◌, ◌≤◌, ◌≡◌, List, [], ◌∷◌, ◌++◌, map, length, take, Option, Some, None, IfSome, IsSomeAnd, slice_get, refl, sym, ap, ◌∙◌, subst, arith}
+use Rattle.std.proofs.Common.{ℕ, suc, zero, ◌+◌, ◌<◌, ◌≡◌, List, [], ◌∷◌, ◌++◌, map, length, take, Option, Some, None, IfSome, slice_get, refl, sym, ap, ◌∙◌, subst, arith, inl, inr, zero-add}
 use Rattle.std.specs.List.{range_with_len}
 use Rattle.std.proofs.lemmas.List.{take_all}
 use Rattle.hs_types.specs.declared.entry.Cause.{Cause}
@@ -139,8 +139,9 @@ one_more : (rules : Rules) (opening : Graph) (written : List (ℕ × Entry)) (e 
 one_more rules opening written e lawful entry =
     let place : e.0 ≡ length written = entry.numbered.at_its_place ∙ length-mapped second written in
     let at : IsLawfulEntry rules (map second written) (after_journal rules opening (map second written)) (length (map second written)) e.1 = subst (λ (n : ℕ). IsLawfulEntry rules (map second written) (after_journal rules opening (map second written)) n e.1) entry.numbered.at_its_place entry in
+    let last : range_with_len 0 (suc (length written)) ≡ range_with_len 0 (length written) ++ length written ∷ [] = range-last 0 (length written) ∙ ap (λ n. range_with_len 0 (length written) ++ n ∷ []) (zero-add (length written)) in
     let places : map first (written ++ e ∷ []) ≡ range_with_len 0 (length (written ++ e ∷ [])) =
-        map-last first written e ∙ ap (λ (ns : List ℕ). ns ++ e.0 ∷ []) lawful.0 ∙ ap (λ n. range_with_len 0 (length written) ++ n ∷ []) place ∙ sym (range-last 0 (length written)) ∙ ap (range_with_len 0) (sym (length-last written e)) in
+        map-last first written e ∙ ap (λ (ns : List ℕ). ns ++ e.0 ∷ []) lawful.0 ∙ ap (λ n. range_with_len 0 (length written) ++ n ∷ []) place ∙ sym last ∙ ap (range_with_len 0) (sym (length-last written e)) in
     (places, subst (IsLawful rules opening) (sym (map-last second written e)) (IsLawful-push rules opening (map second written) e.1 lawful.1 at))
 
 -- If the journal is unlawful nowhere, no prefix of it can be unlawful.
@@ -157,4 +158,4 @@ prefix_lawful rules opening written nowhere (suc n) unlawful = prefix_lawful rul
 
 pub lawful_or_unlawful : (rules : Rules) (opening : Graph) (written : List (ℕ × Entry)) → ((position : ℕ) (asked : Cause) → IsUnlawfulAt rules opening written position asked → ⊥) → (IsLawfulWritten rules opening written → ⊥) → ⊥
 lawful_or_unlawful rules opening written nowhere unlawful =
-    prefix_lawful rules opening written nowhere (length written) (λ lawful. unlawful (subst (IsLawfulWritten rules opening) (take_all written (length written) (omega arith)) lawful))
+    prefix_lawful rules opening written nowhere (length written) (λ lawful. unlawful (subst (IsLawfulWritten rules opening) (take_all (length written) written (omega arith)) lawful))

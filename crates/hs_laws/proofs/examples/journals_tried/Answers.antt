@@ -1,8 +1,4 @@
-use Rattle.std.proofs.Common.{suc, zero, ◌≡◌, [], ◌∷◌, IsSomeAnd, codes, pos, true, refl, sym, subst, rules, lit<, lit≤, ◌<◌, ◌≤◌, inl, map, length, get_or, arith, ap, ℕ, List}
-use Rattle.hs_expr.specs.declared.expr.Expr.TheVariants as expr
-use Rattle.hs_expr.specs.declared.expr.Sign.TheVariants as sign
-use Rattle.hs_expr.specs.declared.value.Value.TheVariants as value
-use Rattle.hs_expr.specs.Evaluation.{Env, value_of}
+use Rattle.std.proofs.Common.{suc, zero, ◌≡◌, [], ◌∷◌, codes, refl, sym, subst, rules, lit<, lit≤, ◌<◌, ◌≤◌, inl, map, length, get_or, arith, ap, ℕ, List}
 use Rattle.hs_types.specs.declared.entry.Cause.{Cause}
 use Rattle.hs_types.specs.declared.entry.Cause.TheVariants as cause
 use Rattle.hs_types.specs.declared.entry.Entry.{Entry}
@@ -11,15 +7,11 @@ use Rattle.hs_types.specs.declared.entry.Outcome.TheVariants.{Applied, Missed}
 use Rattle.hs_types.specs.declared.entry.Tried.{Tried}
 use Rattle.std.specs.List.{flat_map, range_with_len}
 use Rattle.std.proofs.lemmas.List.Elements.{All-nil}
-use Rattle.hs_types.specs.declared.rule.SetItem.{SetItem}
-use Rattle.hs_types.specs.Conditions.{env_of}
-use Rattle.hs_types.specs.Metamodel.{fits, itself}
-use Rattle.hs_types.specs.ValidMatch.{IsValid}
-use Rattle.hs_expr.proofs.Lists.{All-one, below_differs}
+use Rattle.hs_expr.proofs.Lists.{below_differs}
 use Rattle.hs_types.specs.declared.graph.Graph.{Graph}
 use Rattle.hs_types.specs.Journal.{Asks, IsLawfulEntry, IsNumbered, after_entry, rank, tries_in}
 use Rattle.hs_expr.proofs.Evaluations.{values}
-use Rattle.hs_laws.specs.Bank.{add, adds, args_of, at_match, balance, bank_rules, client_with_new_account, client_with_one, just_client, model, number, object_arg, open_account, open_args, opens, opens_missed, opens_misnamed, opens_and_drops, set_balance, tried}
+use Rattle.hs_laws.specs.Bank.{adds, at_match, bank_rules, client_with_new_account, client_with_one, just_client, open_args, opens, opens_missed, opens_misnamed, opens_and_drops, tried}
 use Rattle.hs_laws.proofs.BankTries.{adds_lawful, opens_lawful, opens_valid}
 use Rattle.hs_laws.proofs.examples.journals_tried.Goals as goal
 

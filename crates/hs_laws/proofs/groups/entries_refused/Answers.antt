@@ -1,4 +1,4 @@
-use Rattle.std.proofs.Common.{ℕ, ℤ, pos, suc, zero, ◌<◌, ◌≤◌, ◌≡◌, List, [], ◌∷◌, codes, get_or, refl, sym, ap, rules, lit<, lit≤, inl, inr, arith}
+use Rattle.std.proofs.Common.{ℕ, pos, suc, zero, ◌<◌, ◌≤◌, List, [], ◌∷◌, codes, refl, sym, ap, rules, lit<, inl, arith}
 use Rattle.hs_expr.specs.declared.value.Value.{Value}
 use Rattle.hs_expr.specs.declared.value.Value.TheVariants as value
 use Rattle.hs_expr.proofs.Evaluations.{values}
@@ -6,7 +6,7 @@ use Rattle.hs_expr.proofs.Lists.{below_differs}
 use Rattle.hs_types.specs.declared.entry.Cause.{Cause}
 use Rattle.hs_types.specs.declared.entry.Cause.TheVariants as cause
 use Rattle.hs_types.specs.declared.entry.Outcome.TheVariants.{Applied}
-use Rattle.hs_types.specs.Journal.{Asks, IsLawful, IsLawfulEntry, rank}
+use Rattle.hs_types.specs.Journal.{Asks, IsLawful, rank}
 use Rattle.hs_laws.specs.Bank.{args_of, bank_rules, client_with_new_account, lone_rules, made_client, makes_first, nothing, object_arg, one, tried}
 use Rattle.hs_laws.proofs.BankTries.{adds_lawful}
 use Rattle.hs_laws.proofs.LoneTries.{all_drawn_before, first_lawful}

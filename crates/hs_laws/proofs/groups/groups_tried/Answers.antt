@@ -1,9 +1,8 @@
-use Rattle.std.proofs.Common.{ℕ, suc, zero, ◌≡◌, List, [], ◌∷◌, codes, refl, sym, ap, rules, lit<, inl, inr, get_or}
+use Rattle.std.proofs.Common.{ℕ, suc, zero, List, [], ◌∷◌, refl, ap, rules, lit<, inl, inr, get_or}
 use Rattle.std.specs.List.{flat_map}
 use Rattle.hs_expr.proofs.Lists.{below_differs}
-use Rattle.hs_types.specs.declared.entry.Entry.{Entry}
-use Rattle.hs_types.specs.Journal.{IsLawful, IsLawfulEntry, IsNumbered}
-use Rattle.hs_laws.specs.Bank.{both_done, grouped, lone_rules, makes_first, makes_second, nothing, undone}
+use Rattle.hs_types.specs.Journal.{IsLawful, IsLawfulEntry}
+use Rattle.hs_laws.specs.Bank.{lone_rules, nothing, undone}
 use Rattle.hs_laws.proofs.LoneTries.{after_first_lawful, first_lawful, same_name_before, second_lawful}
 use Rattle.hs_laws.proofs.groups.groups_tried.Goals as goal
 
