@@ -1,5 +1,5 @@
 -- Items of lists: what is picked out of a list, what is made of each, and what is found by a test.
-use Rattle.std.proofs.Common.{ℕ, zero, suc, ◌+◌, ◌<◌, ◌≤◌, ◌≡◌, ◌++◌, List, [], ◌∷◌, Bool, true, false, not, cond, map, length, nat_le, take, slice_get, nat_lt, ◌||◌, if◌then◌else◌, Option, Some, None, is_some, refl, ap, sym, ◌∙◌, inl, inr, arith, add-zero}
+use Rattle.std.proofs.Common.{ℕ, zero, suc, ◌+◌, ◌<◌, ◌≤◌, ◌≡◌, ◌++◌, List, [], ◌∷◌, Bool, true, false, not, cond, map, length, nat_le, take, slice_get, nat_lt, ◌||◌, if◌then◌else◌, Option, Some, None, is_some, refl, ap, sym, subst, ◌∙◌, inl, inr, arith, add-zero}
 use Rattle.std.proofs.lemmas.Bool.{and_parts, false≢true, le-leb, ltb-true}
 use Rattle.std.proofs.lemmas.List.{length-map, length-take-le}
 use Rattle.std.proofs.lemmas.List.Folds.{find_at}
@@ -85,6 +85,14 @@ EachPair-filter_map {A} {B} R f (x ∷ xs) h = go (f x) refl (EachPair-filter_ma
     go : (o : Option B) → f x ≡ o → EachPair R (filter_map f xs) → EachPair R (cons_option o (filter_map f xs))
     go None is rest = rest
     go (Some a) is rest = (All-filter_map (R a) f xs (λ k y b at made. h 0 (suc k) x y a b (omega arith) refl at is made), rest)
+
+-- Where the items are made of others first.
+pub filter_map-map : {A B C : Type 0} (f : B → Option C) (g : A → B) (xs : List A) → filter_map f (map g xs) ≡ filter_map (λ x. f (g x)) xs
+filter_map-map f g [] = refl
+filter_map-map f g (x ∷ xs) = ap (cons_option (f (g x))) (filter_map-map f g xs)
+
+pub All-made : {A B C : Type 0} (P : C → Type 0) (f : B → Option C) (g : A → B) (xs : List A) → ((k : ℕ) (x : A) (y : C) → slice_get xs k ≡ Some x → f (g x) ≡ Some y → P y) → All P (filter_map f (map g xs))
+All-made P f g xs h = subst (All P) (sym (filter_map-map f g xs)) (All-filter_map P (λ x. f (g x)) xs h)
 
 -- No more is made than items pass a test that each of which something is made passes.
 pub fewer_made : {A B : Type 0} (p : A → Bool) (f : A → Option B) (xs : List A) → ((k : ℕ) (x : A) (y : B) → slice_get xs k ≡ Some x → f x ≡ Some y → p x ≡ true) → length (filter_map f xs) ≤ length (filter p xs)

@@ -25,12 +25,12 @@ use Rattle.hs_faults.specs.Marks.{mark_meant}
 use Rattle.hs_check.specs.Elements.{node_meant, node_number}
 use Rattle.hs_check.specs.Expressions.{set_in, set_meant, sets_in}
 use Rattle.hs_check.specs.Parameters.{class_meant}
-use Rattle.hs_check.proofs.PartForms.{IsRight, names_in, visible_nodes, scope_in}
+use Rattle.hs_check.proofs.PartForms.{IsRight, checked_in, names_in, said_in, visible_nodes, scope_in}
 use Rattle.hs_check.proofs.ExprKinds.{IsKnown}
 use Rattle.hs_check.proofs.Edges.{node_at_spot, number_at_spot}
 use Rattle.hs_check.proofs.StatementForms.{AttributeSpot, SetMade, attribute_spot, expr_fits, has_attribute, features_same, nodes_same, set_made}
 use Rattle.hs_check.proofs.Visibility.{Opens, Spot}
-use Rattle.hs_check.proofs.Filters.{All-filter_map, EachPair-filter_map}
+use Rattle.hs_check.proofs.Filters.{All-made, EachPair-filter_map, filter_map-map}
 use Rattle.hs_check.proofs.Scopes.{agree}
 use Rattle.hs_check.proofs.NoFaults.{Clean, SoundSet, sound_set}
 use Rattle.hs_expr.proofs.Items.{slice_get-take, same_text-from}
@@ -66,15 +66,15 @@ module _ (m : Metamodel) (rule : Rule) (clean : Clean m rule) (part : BlockId) (
     spot : Spot m (visible_nodes m rule part before) made.node.text sound.written
     at : AttributeSpot m (visible_nodes m rule part before) made.node.text made.attribute.text sound.written sound.wanted
 
-  set_known : (k : ℕ) (s : Statement) (item : SetItem) → slice_get (statements rule.items) k ≡ Some s → set_in m (names_in m rule part) (visible_nodes m rule part before) part s ≡ Some item → SetKnown k s item
+  set_known : (k : ℕ) (s : Statement) (item : SetItem) → slice_get (statements rule.items) k ≡ Some s → set_in m (visible_nodes m rule part before) part (checked_in m rule s) ≡ Some item → SetKnown k s item
   set_known k s item here e =
-      let is = set_made m (names_in m rule part) (visible_nodes m rule part before) part s item e in
+      let is = set_made m (data_params rule.params) (declared_nodes rule.items) (visible_nodes m rule part before) part s item e in
       let right = subst (IsRight m rule k) is.is (clean.said k s here) in
       let right_set = sound_set m (data_params rule.params) (declared_nodes rule.items) (flat_map slot_set_by (take k (statements rule.items))) part is.node is.attribute is.value right in
       let found = opens.found is.node.text right_set.written right_set.written_open in
       record { made = is; sound = right_set; spot = found; at = attribute_spot m (visible_nodes m rule part before) is.node.text is.attribute.text right_set.written right_set.wanted found right_set.named }
 
-  set_fits : (k : ℕ) (s : Statement) (item : SetItem) → slice_get (statements rule.items) k ≡ Some s → set_in m (names_in m rule part) (visible_nodes m rule part before) part s ≡ Some item →
+  set_fits : (k : ℕ) (s : Statement) (item : SetItem) → slice_get (statements rule.items) k ≡ Some s → set_in m (visible_nodes m rule part before) part (checked_in m rule s) ≡ Some item →
       ((length before ≤ item.node) × SetFits m (scope_in m rule part before) (visible_nodes m rule part before) item) × All (IsKnown (scope_in m rule part before)) (reads_of item.value)
   set_fits k s item here e =
       let is = set_known k s item here e in
@@ -98,16 +98,17 @@ module _ (m : Metamodel) (rule : Rule) (clean : Clean m rule) (part : BlockId) (
         value.1,
       )
 
-  pub sets_fit : All (λ item. (length before ≤ item.node) × SetFits m (scope_in m rule part before) (visible_nodes m rule part before) item) (sets_in m (names_in m rule part) (visible_nodes m rule part before) (statements rule.items) part)
-  sets_fit = All-filter_map (λ (item : SetItem). (length before ≤ item.node) × SetFits m (scope_in m rule part before) (visible_nodes m rule part before) item)
-      (set_in m (names_in m rule part) (visible_nodes m rule part before) part) (statements rule.items) (λ k s item at made. (set_fits k s item at made).0)
+  pub sets_fit : All (λ item. (length before ≤ item.node) × SetFits m (scope_in m rule part before) (visible_nodes m rule part before) item) (sets_in m (visible_nodes m rule part before) (said_in m rule) part)
+  sets_fit = All-made (λ (item : SetItem). (length before ≤ item.node) × SetFits m (scope_in m rule part before) (visible_nodes m rule part before) item)
+      (set_in m (visible_nodes m rule part before) part) (checked_in m rule) (statements rule.items) (λ k s item at made. (set_fits k s item at made).0)
 
-  pub sets_known : All (λ item. All (IsKnown (scope_in m rule part before)) (reads_of item.value)) (sets_in m (names_in m rule part) (visible_nodes m rule part before) (statements rule.items) part)
-  sets_known = All-filter_map (λ (item : SetItem). All (IsKnown (scope_in m rule part before)) (reads_of item.value))
-      (set_in m (names_in m rule part) (visible_nodes m rule part before) part) (statements rule.items) (λ k s item at made. (set_fits k s item at made).1)
+  pub sets_known : All (λ item. All (IsKnown (scope_in m rule part before)) (reads_of item.value)) (sets_in m (visible_nodes m rule part before) (said_in m rule) part)
+  sets_known = All-made (λ (item : SetItem). All (IsKnown (scope_in m rule part before)) (reads_of item.value))
+      (set_in m (visible_nodes m rule part before) part) (checked_in m rule) (statements rule.items) (λ k s item at made. (set_fits k s item at made).1)
 
-  pub sets_once : SetOnce (sets_in m (names_in m rule part) (visible_nodes m rule part before) (statements rule.items) part)
-  sets_once = EachPair-filter_map (λ (a b : SetItem). (a.node ≡ b.node) × (a.attribute ≡ b.attribute) → ⊥) (set_in m (names_in m rule part) (visible_nodes m rule part before) part) (statements rule.items)
+  pub sets_once : SetOnce (sets_in m (visible_nodes m rule part before) (said_in m rule) part)
+  sets_once = subst SetOnce (sym (filter_map-map (set_in m (visible_nodes m rule part before) part) (checked_in m rule) (statements rule.items)))
+      (EachPair-filter_map (λ (a b : SetItem). (a.node ≡ b.node) × (a.attribute ≡ b.attribute) → ⊥) (λ s. set_in m (visible_nodes m rule part before) part (checked_in m rule s)) (statements rule.items)
       (λ i j s t a b low at_i at_j made_a made_b same.
       let first = set_known i s a at_i made_a in
       let second = set_known j t b at_j made_b in
@@ -120,4 +121,4 @@ module _ (m : Metamodel) (rule : Rule) (clean : Clean m rule) (part : BlockId) (
       ap (λ (u : Statement). list_any (λ (slot : Slot). same_text second.made.node.text slot.node && same_text second.made.attribute.text slot.attribute) (slot_set_by u)) first.made.is
       ∙ or_false (same_text second.made.node.text first.made.node.text && same_text second.made.attribute.text first.made.attribute.text) false
       (and_from (same_text second.made.node.text first.made.node.text) (same_text second.made.attribute.text first.made.attribute.text) (same_text-from second.made.node.text first.made.node.text (sym node_same)) (same_text-from second.made.attribute.text first.made.attribute.text (sym attribute_same))) in
-      false≢true (sym second.sound.new ∙ set_before (statements rule.items) i j part s second.made.node.text second.made.attribute.text low at_i here))
+      false≢true (sym second.sound.new ∙ set_before (statements rule.items) i j part s second.made.node.text second.made.attribute.text low at_i here)))

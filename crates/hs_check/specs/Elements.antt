@@ -9,6 +9,7 @@ use Rattle.hs_types.specs.declared.rule.PatternNode.{PatternNode}
 use Rattle.hs_expr.specs.Lists.{same_text}
 use Rattle.hs_faults.specs.declared.nodes.DeclaredNode.{DeclaredNode}
 use Rattle.hs_faults.specs.declared.nodes.BlockId.{BlockId}
+use Rattle.hs_faults.specs.declared.statements.CheckedStatement.{CheckedStatement}
 use Rattle.hs_faults.specs.Marks.{mark_meant}
 use Rattle.hs_faults.specs.Names.{feature_named, as_number}
 use Rattle.hs_faults.specs.Statements.{Statement, Edge, Set, Where}
@@ -52,14 +53,17 @@ edge_meant m nodes mark source target reference = record {
 }
 
 -- The edge that a statement means, if it is an edge of this part of the rule.
-abbrev pub edge_in : Metamodel → List PatternNode → BlockId → Statement → Option PatternEdge
-edge_in m nodes part (Edge home mark source target reference) =
+abbrev pub edge_of : Metamodel → List PatternNode → BlockId → Statement → Option PatternEdge
+edge_of m nodes part (Edge home mark source target reference) =
     if same_block part home then Some
     (edge_meant m nodes (mark_meant mark) source.text target.text reference.text) else None
-edge_in m nodes part (Set home node attribute value) = None
-edge_in m nodes part (Where home word test) = None
+edge_of m nodes part (Set home node attribute value) = None
+edge_of m nodes part (Where home word test) = None
+
+abbrev pub edge_in : Metamodel → List PatternNode → BlockId → CheckedStatement → Option PatternEdge
+edge_in m nodes part checked = edge_of m nodes part checked.statement
 
 -- The edges of one part of the rule, in written order. The part may name these nodes.
-abbrev pub edges_of_part : Metamodel → List PatternNode → List Statement → BlockId
+abbrev pub edges_of_part : Metamodel → List PatternNode → List CheckedStatement → BlockId
     → List PatternEdge
 edges_of_part m nodes statements part = filter_map (edge_in m nodes part) statements

@@ -3,13 +3,12 @@
 ghost use Rattle.std.specs.Prelude.{◌≡◌, IfOk, length};
 ghost use Rattle.hs_check.specs.Rules as spec;
 
-use crate::contents::RuleContents;
 use crate::elements::{edges_of_part, nodes_in};
 use crate::expressions::{sets_in, wheres_in};
 use crate::slots::{add_reads_in, slots_from};
 use crate::visible_nodes::VisibleNodes;
 use hs_expr::{Expr, List};
-use hs_faults::{BlockId, RuleScope};
+use hs_faults::{BlockId, RuleContents};
 use hs_types::{Meta, Multi, Part, PatternEdge, PatternNode, SetItem, Shape};
 use std::alloc::{AllocError, Global};
 
@@ -32,7 +31,7 @@ pub fn part_meant(
 ) -> Result<Part, AllocError>
     ensures { IfOk result (λ meant. meant ≡ spec.part_meant meta.now contents.now kernel.now part) }
 {
-    let nodes = nodes_in(alloc, meta, contents.nodes.items(), part)?;
+    let nodes = nodes_in(alloc, meta, contents.nodes.as_slice(), part)?;
     let open = VisibleNodes::new(kernel, nodes.as_slice());
     let edges = edges_of_part(alloc, meta, &open, contents.statements.as_slice(), part)?;
     Ok(Part { nodes, edges })
@@ -49,7 +48,7 @@ pub fn block_meant(
     ensures { IfOk result
         (λ block. block ≡ spec.block_meant meta.now contents.now before.now part) }
 {
-    let nodes = nodes_in(alloc, meta, contents.nodes.items(), part)?;
+    let nodes = nodes_in(alloc, meta, contents.nodes.as_slice(), part)?;
     block_with(alloc, meta, contents, before, nodes, part)
 }
 
@@ -66,15 +65,9 @@ fn block_with(
 {
     let statements = contents.statements.as_slice();
     let open = VisibleNodes::new(before, nodes.as_slice());
-    let names = RuleScope {
-        meta,
-        params: &contents.params,
-        nodes: &contents.nodes,
-        block: part,
-    };
     let edges = edges_of_part(alloc, meta, &open, statements, part)?;
-    let wheres = wheres_in(alloc, &names, statements, part)?;
-    let sets = sets_in(alloc, &names, &open, statements, part)?;
+    let wheres = wheres_in(alloc, statements, part)?;
+    let sets = sets_in(alloc, meta, &open, statements, part)?;
     Ok(Block {
         nodes,
         edges,

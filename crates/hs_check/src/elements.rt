@@ -7,7 +7,7 @@ ghost use Rattle.hs_check.specs.Elements as spec;
 use crate::parameters::class_meant;
 use crate::visible_nodes::VisibleNodes;
 use hs_expr::List;
-use hs_faults::statements::{Statement, StatementKind};
+use hs_faults::statements::{CheckedStatement, StatementKind};
 use hs_faults::{BlockId, DeclaredNode, feature_named, same_block};
 use hs_text::Mark as WrittenMark;
 use hs_types::{FeatureNo, Mark, Meta, PatternEdge, PatternNode};
@@ -114,17 +114,17 @@ fn edge_in(
     meta: &Meta,
     nodes: &VisibleNodes<'_>,
     part: BlockId,
-    statement: &Statement<'_>,
+    checked: &CheckedStatement<'_>,
 ) -> Option<PatternEdge>
-    ensures { result ≡ spec.edge_in meta.now nodes.now part statement.now }
+    ensures { result ≡ spec.edge_in meta.now nodes.now part checked.now }
 {
-    match statement.kind {
+    match checked.statement.kind {
         StatementKind::Edge {
             mark,
             source,
             target,
             reference,
-        } if same_block(part, statement.block) => Some(edge_meant(
+        } if same_block(part, checked.statement.block) => Some(edge_meant(
             meta,
             nodes,
             mark_meant(mark),
@@ -141,7 +141,7 @@ fn add_edge(
     meta: &Meta,
     nodes: &VisibleNodes<'_>,
     edges: &mut List<PatternEdge>,
-    statement: &Statement<'_>,
+    statement: &CheckedStatement<'_>,
     part: BlockId,
 ) -> Result<(), AllocError>
     ensures { OnOk result
@@ -158,7 +158,7 @@ pub fn edges_of_part(
     alloc: Global,
     meta: &Meta,
     nodes: &VisibleNodes<'_>,
-    statements: &[Statement<'_>],
+    statements: &[CheckedStatement<'_>],
     part: BlockId,
 ) -> Result<List<PatternEdge>, AllocError>
     ensures { IfOk result

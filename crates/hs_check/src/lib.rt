@@ -7,7 +7,6 @@
 
 mod block;
 mod checking;
-mod contents;
 mod elements;
 mod examples;
 mod expressions;
