@@ -41,7 +41,7 @@ use Rattle.hs_check.proofs.Visibility.{Opens, homes_same, node_in, node_made, no
 use Rattle.hs_check.proofs.Filters.{All-filter_map, All-made}
 use Rattle.hs_check.proofs.Sets.{sets_fit, sets_known, sets_once}
 use Rattle.hs_check.proofs.NoFaults.{Clean}
-use Rattle.hs_check.proofs.SlotForms.{SameReads, are_slots}
+use Rattle.hs_check.proofs.SlotForms.{slots_in_form, SameReads, are_slots}
 use Rattle.hs_expr.proofs.Items.{All-at, All-from}
 use Rattle.hs_expr.proofs.Lists.{slice_get-first, All-flat_map}
 
@@ -118,9 +118,14 @@ multi_fits m is rule clean part multi few =
     let before = kernel_of m rule in
     let kinds = multi_block part multi in
     let opens = block_opens m rule clean part kinds.0 few in
+    let slots = slots_in_form m is before (nodes_in m (declared_nodes rule.items) part) (reads_there m rule part before) (sets_in m (visible_nodes m rule part before) (said_in m rule) part) (few_open m rule clean part few) in
     record {
-      nodes_fit = nodes_fit m rule clean part;
-      edges_fit = block_edges m part (visible_nodes m rule part before) (edges_of_part m (visible_nodes m rule part before) (said_in m rule) part) kinds.1 (edges_fit m rule clean part before opens);
+      form = record {
+        nodes_fit = nodes_fit m rule clean part;
+        edges_fit = block_edges m part (visible_nodes m rule part before) (edges_of_part m (visible_nodes m rule part before) (said_in m rule) part) kinds.1 (edges_fit m rule clean part before opens);
+        in_order = slots.0;
+        at_own = slots.1;
+      };
       wheres_fit = wheres_fit m rule clean part before opens;
       sets_fit = sets_fit m rule clean part before opens;
       sets_once = sets_once m rule clean part before opens;
@@ -180,9 +185,14 @@ kernel_fits m is rule clean few =
     let nodes = kernel_of m rule in
     let sets = sets_in m nodes (said_in m rule) home.Kernel in
     let few_here = few_nodes m (declared_nodes rule.items) (statements rule.items) home.Kernel (is_few m rule clean).kernel in
+    let slots = slots_in_form m is [] nodes (all_reads (rule_meant m rule)) sets (omega arith) in
     record {
-      nodes_fit = nodes_fit m rule clean home.Kernel;
-      edges_fit = edges_fit m rule clean home.Kernel [] opens;
+      form = record {
+        nodes_fit = nodes_fit m rule clean home.Kernel;
+        edges_fit = edges_fit m rule clean home.Kernel [] opens;
+        in_order = slots.0;
+        at_own = slots.1;
+      };
       wheres_fit = wheres_fit m rule clean home.Kernel [] opens;
       sets_fit = sets_fit m rule clean home.Kernel [] opens;
       sets_once = sets_once m rule clean home.Kernel [] opens;
