@@ -50,4 +50,3 @@ pub value_none : (v : Value) → has_float (value_data v) ≡ false
 value_none (value.Int n) = elim n as (λ z. has_float (value_data (value.Int z)) ≡ false) [ pos k ↦ refl | negsuc k ↦ refl ]
 value_none (value.Bool b) = refl
 value_none (value.Text t) = refl
-

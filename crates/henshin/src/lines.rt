@@ -10,8 +10,7 @@ ghost use Rattle.hs_json_model.specs.Written.{lines_of};
 
 use hs_expr::{List, Text, Value as Datum};
 use hs_json_model::{
-    Members, add_line, datum_value, list_value, text_value, texts_value,
-    with_graph,
+    Members, add_line, datum_value, list_value, text_value, texts_value, with_graph,
 };
 use hs_session::{Reply, Report, Word};
 use hs_types::{
@@ -159,11 +158,7 @@ fn tried_members(alloc: Global, rules: &RuleSet, tried: &Tried) -> Result<Member
     Ok(members)
 }
 
-fn add_outcome(
-    alloc: Global,
-    members: &mut Members,
-    outcome: &Outcome,
-) -> Result<(), AllocError>
+fn add_outcome(alloc: Global, members: &mut Members, outcome: &Outcome) -> Result<(), AllocError>
     ensures { OnOk result (members_view members.new.entries
         ≡ with_members (members_view members.old.entries) (outcome_members outcome.now)) }
 {

@@ -278,9 +278,11 @@ are_slots m is scope before own reads those sets few same all_known all_fit = su
   needed = of_each m Needed before own reads sets
       (λ i node here left a t.
       let below = slice_get_within own i node here in
-      let slot = slot_at sets (length before + i) a in
-      (ap (λ b. b || is_among (slots_set sets) slot) (among_read those slot) ∙ ap (λ b. is_read those slot || b) (among_set sets slot)
-      ∙ ap (λ b. b || is_set_at sets (length before + i) a) (sym (same (length before + i) a (omega arith) (omega arith))) ∙ t, sym (among_set sets slot)));
+      let slot = slot_at sets (length before + i) a in (
+        ap (λ b. b || is_among (slots_set sets) slot) (among_read those slot) ∙ ap (λ b. is_read those slot || b) (among_set sets slot)
+            ∙ ap (λ b. b || is_set_at sets (length before + i) a) (sym (same (length before + i) a (omega arith) (omega arith))) ∙ t,
+        sym (among_set sets slot),
+      ));
   all_read = All-map (λ s. length before ≤ s.node → has_slot slots s.node s.kind ≡ true) slot_of_read those (all_read_there m before own reads those sets same all_known);
   all_written = All-map (λ s. node_is is_keep (before ++ own) s.node ≡ true → has_slot slots s.node s.kind ≡ true) slot_of_set sets (all_set_there m scope before own reads sets all_fit);
 })

@@ -81,11 +81,23 @@ module _ (rules : Rules) (g : Graph) (tried : Tried) where
   -- An attempt that fails by no cause can't be unlawful.
   try_lawful : ((c : Cause) → FailsBy rules g tried c → ⊥) → (IsLawfulTry rules g tried → ⊥) → ⊥
   try_lawful none unlawful =
-      none cause.Rule (record { met = up_to_rule; unmet = λ rule.
-      none cause.Match (record { met = up_to_match rule; unmet = λ found.
-      none cause.Valid (record { met = up_to_valid rule found; unmet = λ valid.
-      none cause.New (record { met = up_to_new rule found valid; unmet = λ new.
-      none cause.Old (record { met = up_to_old rule found valid new; unmet = λ old. unlawful (all_met rule found valid new old) }) }) }) }) })
+      none cause.Rule (record {
+        met = up_to_rule;
+        unmet = λ rule.
+            none cause.Match (record {
+              met = up_to_match rule;
+              unmet = λ found.
+                  none cause.Valid (record {
+                    met = up_to_valid rule found;
+                    unmet = λ valid.
+                        none cause.New (record {
+                          met = up_to_new rule found valid;
+                          unmet = λ new.
+                              none cause.Old (record { met = up_to_old rule found valid new; unmet = λ old. unlawful (all_met rule found valid new old) });
+                        });
+                  });
+            });
+      })
 
 tries_lawful : (rules : Rules) (g : Graph) (tries : List Tried) → ((c : Cause) → OneFailsBy rules g tries c → ⊥) → (AreLawfulTries rules g tries → ⊥) → ⊥
 tries_lawful rules g [] none unlawful = unlawful tt
@@ -141,7 +153,7 @@ one_more rules opening written e lawful entry =
     let at : IsLawfulEntry rules (map second written) (after_journal rules opening (map second written)) (length (map second written)) e.1 = subst (λ (n : ℕ). IsLawfulEntry rules (map second written) (after_journal rules opening (map second written)) n e.1) entry.numbered.at_its_place entry in
     let last : range_with_len 0 (suc (length written)) ≡ range_with_len 0 (length written) ++ length written ∷ [] = range-last 0 (length written) ∙ ap (λ n. range_with_len 0 (length written) ++ n ∷ []) (zero-add (length written)) in
     let places : map first (written ++ e ∷ []) ≡ range_with_len 0 (length (written ++ e ∷ [])) =
-        map-last first written e ∙ ap (λ (ns : List ℕ). ns ++ e.0 ∷ []) lawful.0 ∙ ap (λ n. range_with_len 0 (length written) ++ n ∷ []) place ∙ sym last ∙ ap (range_with_len 0) (sym (length-last written e)) in
+    map-last first written e ∙ ap (λ (ns : List ℕ). ns ++ e.0 ∷ []) lawful.0 ∙ ap (λ n. range_with_len 0 (length written) ++ n ∷ []) place ∙ sym last ∙ ap (range_with_len 0) (sym (length-last written e)) in
     (places, subst (IsLawful rules opening) (sym (map-last second written e)) (IsLawful-push rules opening (map second written) e.1 lawful.1 at))
 
 -- If the journal is unlawful nowhere, no prefix of it can be unlawful.

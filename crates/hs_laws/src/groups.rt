@@ -25,11 +25,14 @@ pub fn groups_tried()
 /// Entries that are refused: of no session, of a request before that of an earlier entry, at no
 /// rule, with more objects than there are numbers, and with another value before.
 pub fn entries_refused()
-    ensures session { IsUnlawfulAt lone_rules nothing ((0, record {
-          session = 64;
-          request = 0;
-          what = One (makes_first (codes "#0"));
-        }) ∷ []) 0 cause.Number }
+    ensures session { IsUnlawfulAt lone_rules nothing ((
+      0,
+      record {
+        session = 64;
+        request = 0;
+        what = One (makes_first (codes "#0"));
+      },
+    ) ∷ []) 0 cause.Number }
     ensures request { IsUnlawfulAt lone_rules nothing
         ((0, one 1 (makes_first (codes "#0"))) ∷ (1, one 0 (makes_first (codes "#1"))) ∷ []) 1
         cause.Number }

@@ -54,7 +54,7 @@ pub fn lawful_or_not()
         → IsLawfulWritten rules opening written → ⊥ }
     ensures not_neither { (rules : Rules) (opening : Graph) (written : List (ℕ × Entry))
         → ((position : ℕ) (asked : Cause)
-            → IsUnlawfulAt rules opening written position asked → ⊥)
+        → IsUnlawfulAt rules opening written position asked → ⊥)
         → (IsLawfulWritten rules opening written → ⊥) → ⊥ }
 {}
 

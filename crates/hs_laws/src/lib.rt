@@ -23,7 +23,8 @@ pub use examples::{
 };
 pub use groups::{entries_refused, groups_tried};
 pub use journals::{
-    attempts_stay_typed, journals_go_on, journals_stay_lawful, lawful_or_not, missed_attempts_change_nothing,
+    attempts_stay_typed, journals_go_on, journals_stay_lawful, lawful_or_not,
+    missed_attempts_change_nothing,
 };
 pub use order::{least_is_unique, order_is_total};
 pub use refusals::{

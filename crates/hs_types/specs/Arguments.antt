@@ -78,7 +78,7 @@ as_given params args = record {
       map (λ given. record {
         name = given.name;
         arg = as_arg (option_map (λ param. param.kind)
-        (find (λ param. same_text param.name given.name) params)) given.arg;
+            (find (λ param. same_text param.name given.name) params)) given.arg;
       }) args.list;
 }
 

@@ -26,9 +26,7 @@ mod rule_set;
 mod unit;
 
 pub use conformance::Meta;
-pub use entry::{
-    Cause, Entry, ExtensionNames, Gone, MatchNames, NamedValue, Outcome, Tried, What,
-};
+pub use entry::{Cause, Entry, ExtensionNames, Gone, MatchNames, NamedValue, Outcome, Tried, What};
 pub use graph::{Edge, EdgeNo, Graph, ListGraph, Object, ObjectNo, Slot};
 pub use matching::{Extension, Match};
 pub use meta::{Class, ClassNo, DataType, Feature, FeatureKind, FeatureNo, Metamodel};
