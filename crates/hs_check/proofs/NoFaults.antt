@@ -1,7 +1,7 @@
 -- What is so of a rule in which no fault is found.
 use Rattle.std.proofs.Common.{ℕ, zero, suc, ◌≡◌, ◌++◌, List, [], ◌∷◌, Bool, true, false, not, ◌&&◌, is_some, length, nat_le, take, Option, Some, None, Result, Ok, Err, slice_get, refl, ap, sym, ◌∙◌}
 use Rattle.std.proofs.lemmas.Bool.{and_parts, not-false}
-use Rattle.std.proofs.lemmas.List.{append-nil, append_assoc}
+use Rattle.std.proofs.lemmas.List.{append-nil, append_assoc, append-nil, append_assoc}
 use Rattle.std.proofs.lemmas.Option.{none-some, same_Some}
 use Rattle.std.specs.List.{flat_map}
 use Rattle.hs_expr.specs.declared.Kind.{Kind}
@@ -89,18 +89,10 @@ third_at : (m : Metamodel) (params : List DataParam) (nodes : List DeclaredNode)
 third_at m params nodes before [] e k s at = absurd (none-some s at)
 third_at m params nodes before (t ∷ said) e zero s at =
     let none = none_told (statement_checked m params nodes before t) (empty_parts (first_fault (statement_checked m params nodes before t)) _ e).0 in
-    ap (λ (b : List Slot). statement_checked m params nodes b s) (nothing_behind before) ∙ ap (statement_checked m params nodes before) (sym (same_Some t s at)) ∙ none.1
-  where
-    nothing_behind : (xs : List Slot) → xs ++ [] ≡ xs
-    nothing_behind [] = refl
-    nothing_behind (x ∷ xs) = ap (λ ys. x ∷ ys) (nothing_behind xs)
+    ap (λ (b : List Slot). statement_checked m params nodes b s) (append-nil before) ∙ ap (statement_checked m params nodes before) (sym (same_Some t s at)) ∙ none.1
 third_at m params nodes before (t ∷ said) e (suc k) s at =
-    ap (λ (b : List Slot). statement_checked m params nodes b s) (sym (grouped before (slot_set_by t) (flat_map slot_set_by (take k said))))
+    ap (λ (b : List Slot). statement_checked m params nodes b s) (sym (append_assoc before (slot_set_by t) (flat_map slot_set_by (take k said))))
     ∙ third_at m params nodes (before ++ slot_set_by t) said (empty_parts (first_fault (statement_checked m params nodes before t)) (statement_faults m params nodes (before ++ slot_set_by t) said) e).1 k s at
-  where
-    grouped : (a b c : List Slot) → a ++ b ++ c ≡ a ++ (b ++ c)
-    grouped [] b c = refl
-    grouped (x ∷ a) b c = ap (λ ys. x ∷ ys) (grouped a b c)
 
 -- All that holds of a rule without faults.
 pub record Clean (m : Metamodel) (rule : Rule) : Type 0 where

@@ -4,6 +4,7 @@ use Rattle.std.specs.List.{All, fold, range_with_len}
 use Rattle.std.specs.Option.{option_map, unwrap_or}
 use Rattle.std.proofs.lemmas.Bool.{cases_lt}
 use Rattle.std.proofs.lemmas.List.{take-append-le, take_all}
+use Rattle.std.proofs.lemmas.List.Sums.{fold-append}
 use Rattle.std.proofs.lemmas.List.Elements.{All-weaker, All-head, All-tail}
 use Rattle.hs_expr.proofs.Items.{slice_get-take}
 use Rattle.hs_types.specs.declared.entry.Cause.{Cause}
@@ -146,16 +147,12 @@ after_what-typed rules g (One tried) d ws t h = after_try-typed rules g tried d 
 after_what-typed rules g (Group attempts false) d ws t h = t
 after_what-typed rules g (Group attempts true) d ws t h = after_tries-typed rules g attempts d ws t h
 
-fold-push : {A B : Type 0} (f : B → A → B) (b : B) (xs : List A) (x : A) → fold f b (xs ++ x ∷ []) ≡ f (fold f b xs) x
-fold-push f b [] x = refl
-fold-push f b (y ∷ ys) x = fold-push f (f b y) ys x
-
 -- The rules of rules in their form.
 pub rules_of : (rules : Rules) → AreFormed rules → All (IsRule rules.meta) rules.rules
 rules_of rules formed = All-weaker (λ rule. IsRule rules.meta rule × IsSmallRule rule) (IsRule rules.meta) (λ rule h. h.0) rules.rules formed.2.are_rules
 
 pub after_journal-push : (rules : Rules) (g : Graph) (entries : List Entry) (entry : Entry) → after_journal rules g (entries ++ entry ∷ []) ≡ after_entry rules (after_journal rules g entries) entry
-after_journal-push rules g entries entry = fold-push (after_entry rules) g entries entry
+after_journal-push rules g entries entry = fold-append (after_entry rules) g entries (entry ∷ [])
 
 -- The graph at each place of a lawful journal is typed.
 pub after_journal-typed : (rules : Rules) (g : Graph) (entries : List Entry) (n : ℕ) → IsMeta rules.meta → All (IsRule rules.meta) rules.rules → IsTyped rules.meta g → IsLawful rules g entries → IsTyped rules.meta (after_journal rules g (take n entries))
@@ -173,7 +170,7 @@ after_journal-typed rules g entries (suc n) d ws t h = go (after_journal-typed r
     go before None e = rw (take_none entries n e) before
     go before (Some entry) e =
         let lawful : IsLawfulEntry rules (take n entries) (after_journal rules g (take n entries)) n entry = rw e at (h n) in
-        rw (take_next entries n entry e, fold-push (after_entry rules) g (take n entries) entry) (after_what-typed rules (after_journal rules g (take n entries)) entry.what d ws before lawful.tries)
+        rw (take_next entries n entry e, fold-append (after_entry rules) g (take n entries) (entry ∷ [])) (after_what-typed rules (after_journal rules g (take n entries)) entry.what d ws before lawful.tries)
 
 -- An attempt that fails by a cause is not lawful, and so on for all attempts.
 pub OneFailsBy-unlawful : (rules : Rules) (g : Graph) (tries : List Tried) (asked : Cause) → OneFailsBy rules g tries asked → AreLawfulTries rules g tries → ⊥

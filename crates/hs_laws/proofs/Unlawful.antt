@@ -2,6 +2,7 @@
 use Rattle.std.proofs.Common.{ℕ, suc, zero, ◌+◌, ◌<◌, ◌≡◌, List, [], ◌∷◌, ◌++◌, map, length, take, Option, Some, None, IfSome, slice_get, refl, sym, ap, ◌∙◌, subst, arith, inl, inr, zero-add}
 use Rattle.std.specs.List.{range_with_len}
 use Rattle.std.proofs.lemmas.List.{take_all}
+use Rattle.hs_expr.proofs.Items.{range-more}
 use Rattle.hs_types.specs.declared.entry.Cause.{Cause}
 use Rattle.hs_types.specs.declared.entry.Cause.TheVariants as cause
 use Rattle.hs_types.specs.declared.entry.Entry.{Entry}
@@ -141,17 +142,13 @@ length-mapped : {A B : Type 0} (f : A → B) (xs : List A) → length (map f xs)
 length-mapped f [] = refl
 length-mapped f (x ∷ xs) = ap suc (length-mapped f xs)
 
-range-last : (from count : ℕ) → range_with_len from (suc count) ≡ range_with_len from count ++ (from + count) ∷ []
-range-last from zero = ap (λ n. n ∷ []) (omega arith)
-range-last from (suc count) = ap (λ ns. from ∷ ns) (range-last (from + 1) count ∙ ap (λ n. range_with_len (from + 1) count ++ n ∷ []) (omega arith))
-
 -- A lawful written journal with a lawful entry more.
 one_more : (rules : Rules) (opening : Graph) (written : List (ℕ × Entry)) (e : ℕ × Entry) → IsLawfulWritten rules opening written →
     IsLawfulEntry rules (map second written) (after_journal rules opening (map second written)) e.0 e.1 → IsLawfulWritten rules opening (written ++ e ∷ [])
 one_more rules opening written e lawful entry =
     let place : e.0 ≡ length written = entry.numbered.at_its_place ∙ length-mapped second written in
     let at : IsLawfulEntry rules (map second written) (after_journal rules opening (map second written)) (length (map second written)) e.1 = subst (λ (n : ℕ). IsLawfulEntry rules (map second written) (after_journal rules opening (map second written)) n e.1) entry.numbered.at_its_place entry in
-    let last : range_with_len 0 (suc (length written)) ≡ range_with_len 0 (length written) ++ length written ∷ [] = range-last 0 (length written) ∙ ap (λ n. range_with_len 0 (length written) ++ n ∷ []) (zero-add (length written)) in
+    let last : range_with_len 0 (suc (length written)) ≡ range_with_len 0 (length written) ++ length written ∷ [] = range-more 0 (length written) ∙ ap (λ n. range_with_len 0 (length written) ++ n ∷ []) (zero-add (length written)) in
     let places : map first (written ++ e ∷ []) ≡ range_with_len 0 (length (written ++ e ∷ [])) =
     map-last first written e ∙ ap (λ (ns : List ℕ). ns ++ e.0 ∷ []) lawful.0 ∙ ap (λ n. range_with_len 0 (length written) ++ n ∷ []) place ∙ sym last ∙ ap (range_with_len 0) (sym (length-last written e)) in
     (places, subst (IsLawful rules opening) (sym (map-last second written e)) (IsLawful-push rules opening (map second written) e.1 lawful.1 at))

@@ -5,8 +5,8 @@ ghost use Rattle.hs_types.specs.declared.meta.Metamodel.{Metamodel};
 ghost use Rattle.hs_expr.specs.Lists.{has};
 ghost use Rattle.hs_types.specs.Metamodel.{Conforms, IsMeta, attributes_of, features_of};
 
-/// Conformance is an order over a metamodel, and a class has the features and the attributes of each
-/// class that it conforms to.
+/// Conformance is an order over a metamodel, and a class has the features and the attributes of
+/// each class that it conforms to.
 pub fn conformance_is_an_order()
     ensures reflexive { (m : Metamodel) (c : ℕ) → Conforms m c c }
     ensures transitive { (m : Metamodel) (a b c : ℕ) → Conforms m a b → Conforms m b c

@@ -198,7 +198,8 @@ pub fn copies()
 pub fn journals_tried()
     ensures lawful { IsLawful bank_rules just_client (opens ∷ adds ∷ []) }
     ensures graph { after_journal bank_rules just_client (opens ∷ adds ∷ []) ≡ client_with_one }
-    ensures exchanged { IsUnlawfulAt bank_rules just_client ((0, adds_first) ∷ (1, opens_second) ∷ []) 0 cause.Match }
+    ensures exchanged { IsUnlawfulAt bank_rules just_client
+        ((0, adds_first) ∷ (1, opens_second) ∷ []) 0 cause.Match }
     ensures missed { IsUnlawfulAt bank_rules just_client ((0, opens_missed) ∷ []) 0 cause.Valid }
     ensures misnamed { IsUnlawfulAt bank_rules just_client ((0, opens_misnamed) ∷ []) 0 cause.New }
     ensures not_gone { IsUnlawfulAt bank_rules just_client ((0, opens_and_drops) ∷ []) 0 cause.Old }

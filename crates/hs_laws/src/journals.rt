@@ -41,8 +41,8 @@ pub fn journals_go_on()
         ≡ after_entry rules (after_journal rules opening entries) entry }
 {}
 
-/// A written journal is lawful, or it has one first entry and one first cause by which it isn't, and
-/// not both. (That it is one of the two is said without a choice: it isn't neither.)
+/// A written journal is lawful, or it has one first entry and one first cause by which it isn't,
+/// and not both. (That it is one of the two is said without a choice: it isn't neither.)
 pub fn lawful_or_not()
     ensures one_cause { (rules : Rules) (opening : Graph) (written : List (ℕ × Entry)) (p q : ℕ)
         (c d : Cause)

@@ -2,6 +2,8 @@
 use Rattle.std.proofs.Common.{◌≡◌, List, [], ◌∷◌, ◌++◌, length, take, Bool, true, false, Option, Some, slice_get, refl, sym, ap, ◌∙◌, subst}
 use Rattle.std.specs.Prelude.{IfSome}
 use Rattle.std.specs.List.{All, fold}
+use Rattle.std.proofs.lemmas.List.{append-nil, append_assoc}
+use Rattle.std.proofs.lemmas.List.Sums.{fold-append}
 use Rattle.std.proofs.lemmas.List.Elements.{All-nil, All-cons, All-head, All-tail}
 use Rattle.hs_types.specs.declared.entry.Entry.{Entry}
 use Rattle.hs_types.specs.declared.graph.Graph.{Graph}
@@ -11,21 +13,13 @@ use Rattle.hs_session.specs.Standing.{Standing, place_of, standing_after}
 use Rattle.hs_session.specs.Requests.{Asked, is_of}
 use Rattle.hs_session.specs.Replies.{entries_of}
 
-pub append-assoc : {A : Type 0} (xs ys zs : List A) → (xs ++ ys) ++ zs ≡ xs ++ (ys ++ zs)
-append-assoc [] ys zs = refl
-append-assoc (x ∷ xs) ys zs = ap (λ l. x ∷ l) (append-assoc xs ys zs)
-
-pub append-none : {A : Type 0} (xs : List A) → xs ++ [] ≡ xs
-append-none [] = refl
-append-none (x ∷ xs) = ap (λ l. x ∷ l) (append-none xs)
-
 -- The entries of two lists, one after the other.
 pub standing-append : (rules : Rules) (before : List Entry) (g : Graph) (xs ys : List Entry) →
     standing_after rules before g (xs ++ ys) ≡ standing_after rules before g xs ++ standing_after rules (before ++ xs) (after_journal rules g xs) ys
-standing-append rules before g [] ys = ap (λ b. standing_after rules b g ys) (sym (append-none before))
+standing-append rules before g [] ys = ap (λ b. standing_after rules b g ys) (sym (append-nil before))
 standing-append rules before g (x ∷ xs) ys = ap (λ l. record { before = before; graph = g; entry = x } ∷ l)
     (standing-append rules (before ++ x ∷ []) (after_entry rules g x) xs ys
-    ∙ ap (λ b. standing_after rules (before ++ x ∷ []) (after_entry rules g x) xs ++ standing_after rules b (after_journal rules (after_entry rules g x) xs) ys) (append-assoc before (x ∷ []) xs))
+    ∙ ap (λ b. standing_after rules (before ++ x ∷ []) (after_entry rules g x) xs ++ standing_after rules b (after_journal rules (after_entry rules g x) xs) ys) (append_assoc before (x ∷ []) xs))
 
 pub nothing-placed : (rules : Rules) (before : List Entry) (g : Graph) (xs : List Entry) → standing_after rules before g xs ≡ [] → xs ≡ []
 nothing-placed rules before g [] e = refl
@@ -53,7 +47,7 @@ pub front_theirs : (rules : Rules) (a : Asked) (before : List Entry) (g : Graph)
 front_theirs rules a before g xs ys all none =
     ap (entries_of a) (standing-append rules before g xs ys) ∙ entries-append a (standing_after rules before g xs) (standing_after rules (before ++ xs) (after_journal rules g xs) ys)
     ∙ ap (λ l. l ++ entries_of a (standing_after rules (before ++ xs) (after_journal rules g xs) ys)) (all_theirs rules a before g xs all)
-    ∙ ap (λ l. standing_after rules before g xs ++ l) (none_theirs rules a (before ++ xs) (after_journal rules g xs) ys none) ∙ append-none (standing_after rules before g xs)
+    ∙ ap (λ l. standing_after rules before g xs ++ l) (none_theirs rules a (before ++ xs) (after_journal rules g xs) ys none) ∙ append-nil (standing_after rules before g xs)
 
 pub rest_theirs : (rules : Rules) (a : Asked) (before : List Entry) (g : Graph) (xs ys : List Entry) → All (λ e. is_of a e ≡ false) xs →
     entries_of a (standing_after rules before g (xs ++ ys)) ≡ entries_of a (standing_after rules (before ++ xs) (after_journal rules g xs) ys)
@@ -64,10 +58,6 @@ rest_theirs rules a before g xs ys none =
 -- Each entry of a lawful journal is lawful where it is.
 abbrev pub IsLawfulAt : Rules → Standing → Type 0
 IsLawfulAt rules s = IsLawfulEntry rules s.before s.graph (place_of s) s.entry
-
-pub fold-next : {A B : Type 0} (f : B → A → B) (b : B) (xs : List A) (x : A) → fold f b (xs ++ x ∷ []) ≡ f (fold f b xs) x
-fold-next f b [] x = refl
-fold-next f b (y ∷ ys) x = fold-next f (f b y) ys x
 
 next_at : {A : Type 0} (xs : List A) (x : A) (ys : List A) → slice_get (xs ++ x ∷ ys) (length xs) ≡ Some x
 next_at [] x ys = refl
@@ -83,7 +73,7 @@ pub lawful_along : (rules : Rules) (opening : Graph) (before : List Entry) (g : 
 lawful_along rules opening before g [] same lawful = All-nil (IsLawfulAt rules)
 lawful_along rules opening before g (e ∷ es) same lawful = All-cons (IsLawfulAt rules) (record { before = before; graph = g; entry = e }) (standing_after rules (before ++ e ∷ []) (after_entry rules g e) es)
     (subst (λ (x : Graph). IsLawfulEntry rules before x (length before) e) same here)
-    (lawful_along rules opening (before ++ e ∷ []) (after_entry rules g e) es (fold-next (after_entry rules) opening before e ∙ ap (λ x. after_entry rules x e) same) (subst (IsLawful rules opening) (sym (append-assoc before (e ∷ []) es)) lawful))
+    (lawful_along rules opening (before ++ e ∷ []) (after_entry rules g e) es (fold-append (after_entry rules) opening before (e ∷ []) ∙ ap (λ x. after_entry rules x e) same) (subst (IsLawful rules opening) (sym (append_assoc before (e ∷ []) es)) lawful))
   where
     at : IfSome (slice_get (before ++ e ∷ es) (length before)) (IsLawfulEntry rules (take (length before) (before ++ e ∷ es)) (after_journal rules opening (take (length before) (before ++ e ∷ es))) (length before))
     at = lawful (length before)

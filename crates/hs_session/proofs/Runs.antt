@@ -37,10 +37,10 @@ pub record IsWell (rules : Rules) (g : Graph) : Type 0 where
   pub tries_typed : TriesTyped
   pub entries_typed : EntriesTyped
 
-asks_rule : {a b : ℕ} {x y : Args} → Asks a x ≡ Asks b y → a ≡ b
+pub asks_rule : {a b : ℕ} {x y : Args} → Asks a x ≡ Asks b y → a ≡ b
 asks_rule e = cc
 
-asks_args : {a b : ℕ} {x y : Args} → Asks a x ≡ Asks b y → x ≡ y
+pub asks_args : {a b : ℕ} {x y : Args} → Asks a x ≡ Asks b y → x ≡ y
 asks_args e = cc
 
 first_same : {m n : ℕ} {ms ns : List ℕ} → m ∷ ms ≡ n ∷ ns → m ≡ n
@@ -55,8 +55,8 @@ not_over run rule args c is asks over = subst IsOver (sym is ∙ asks) over
 pub well_after : (rules : Rules) (g : Graph) (t : Tried) → IsWell rules g → IsLawfulTry rules g t → IsWell rules (after_try rules g t)
 well_after rules g t well lawful = record { formed = well.formed; typed = well.tries_typed rules g t well.formed well.typed lawful; one_least = well.one_least; tries_typed = well.tries_typed; entries_typed = well.entries_typed }
 
-pub well_behind : (rules : Rules) (g : Graph) (e : Entry) → IsWell rules g → AreLawfulTries rules g (tries_in e.what) → IsWell rules (after_entry rules g e)
-well_behind rules g e well lawful = record { formed = well.formed; typed = well.entries_typed rules g e well.formed well.typed lawful; one_least = well.one_least; tries_typed = well.tries_typed; entries_typed = well.entries_typed }
+pub well_after_entry : (rules : Rules) (g : Graph) (e : Entry) → IsWell rules g → AreLawfulTries rules g (tries_in e.what) → IsWell rules (after_entry rules g e)
+well_after_entry rules g e well lawful = record { formed = well.formed; typed = well.entries_typed rules g e well.formed well.typed lawful; one_least = well.one_least; tries_typed = well.tries_typed; entries_typed = well.entries_typed }
 
 -- What a serial report says of the attempts of one entry.
 pub record AreTries (rules : Rules) (g : Graph) (n : ℕ) (ts : List Tried) : Type 0 where
@@ -145,6 +145,6 @@ singles_same rules a before g run (x ∷ xs) (y ∷ ys) c d well sx sy ax ay ox 
     let run' : Run = rest_after (outcome_made rules (record { graph = g; tried = s.0 })) run in
     let q_tried : ComesTo rules run' (flat_map (made_in rules) more_y) d = subst (λ (u : Tried). ComesTo rules (rest_after (outcome_made rules (record { graph = g; tried = u })) run) (flat_map (made_in rules) more_y) d) (sym tried) q'.1 in
     let q_entry : ComesTo rules run' (flat_map (made_in rules) (standing_after rules (before ++ x ∷ []) (after_entry rules g x) ys)) d = subst (λ (e : Entry). ComesTo rules run' (flat_map (made_in rules) (standing_after rules (before ++ e ∷ []) (after_entry rules g e) ys)) d) (sym entry) q_tried in
-    let rest = singles_same rules a (before ++ x ∷ []) (after_entry rules g x) run' xs ys c d (well_behind rules g x well (All-head (IsSound rules) here_x more_x sx).0.tries) (All-tail (IsSound rules) here_x more_x sx) sy'
+    let rest = singles_same rules a (before ++ x ∷ []) (after_entry rules g x) run' xs ys c d (well_after_entry rules g x well (All-head (IsSound rules) here_x more_x sx).0.tries) (All-tail (IsSound rules) here_x more_x sx) sy'
     (All-tail (λ e. is_of a e ≡ true) x xs ax) (All-tail (λ e. is_of a e ≡ true) y ys ay) (All-tail (λ s. IsSingle s.entry.what) here_x more_x ox) oy' p'.1 q_entry over over' in
     ((λ i. entry i ∷ rest.0 i), rest.1)

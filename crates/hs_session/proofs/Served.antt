@@ -29,7 +29,7 @@ use Rattle.hs_session.specs.declared.report.Reply.{Reply}
 use Rattle.hs_session.specs.declared.report.Word.TheVariants as word
 use Rattle.hs_session.specs.Replies.{Fit, IsBegun, IsReply, IsRun, IsSingle, Says, outs_for, run_for, word_for}
 use Rattle.hs_session.specs.Requests.{Asked, IsAsked, args_for, callee_named, params_at}
-use Rattle.hs_session.specs.Runnable.{word_of}
+use Rattle.hs_session.specs.Runnable.{outcome_word}
 use Rattle.hs_session.specs.Runs.{ComesTo}
 use Rattle.hs_session.specs.SerialReport.{AreLeast, IsLeastOutcome, IsLeastTry, IsSerialReport}
 use Rattle.hs_session.specs.Standing.{Standing, no_outs, outcome_made, outcome_of, outs_at}
@@ -39,7 +39,7 @@ abbrev pub first_entry : Tried → Entry
 first_entry tried = record { session = 0; request = 0; what = One tried }
 
 abbrev pub first_reply : Outcome → Reply
-first_reply outcome = record { session = 0; request = 0; word = word_of outcome; places = 0 ∷ []; outs = no_outs }
+first_reply outcome = record { session = 0; request = 0; word = outcome_word outcome; places = 0 ∷ []; outs = no_outs }
 
 -- A rule without parameters gives nothing back.
 gives_nothing : (g : Graph) (rule : Rule) (found : Option Match) → rule.params ≡ [] → unwrap_or (option_map (outs_at g rule) found) no_outs ≡ no_outs
@@ -111,15 +111,15 @@ module _ (rules : Rules) (opening : Graph) (request : Request) (rule : Rule) (tr
       after_applied = rw (outcome_is, is, gives_nothing opening rule (match_named opening found) made.no_params) (runs (outcome.Applied no_outs ∷ []))
   comes_to fuel Missed is run runs = (runs [] ∙ ap (Asks tried.rule) (sym made.tried_args), rw (outcome_is, is) (runs (outcome.Missed ∷ [])))
 
-  said : (fuel : ℕ) (outcome : Outcome) → Says (word_for (callee.Rule tried.rule) (ended fuel outcome)) (word_of outcome)
+  said : (fuel : ℕ) (outcome : Outcome) → Says (word_for (callee.Rule tried.rule) (ended fuel outcome)) (outcome_word outcome)
   said fuel (Applied found new old gone) = inl refl
   said fuel Missed = inl refl
 
-  given : (fuel : ℕ) (outcome : Outcome) → no_outs ≡ outs_for (word_of outcome) (ended fuel outcome)
+  given : (fuel : ℕ) (outcome : Outcome) → no_outs ≡ outs_for (outcome_word outcome) (ended fuel outcome)
   given fuel (Applied found new old gone) = refl
   given fuel Missed = refl
 
-  not_full : (outcome : Outcome) → word_of outcome ≡ word.Full → ⊥
+  not_full : (outcome : Outcome) → outcome_word outcome ≡ word.Full → ⊥
   not_full (Applied found new old gone) e = cc
   not_full Missed e = cc
 

@@ -7,15 +7,10 @@ use Rattle.hs_unit.specs.declared.outcome.Outcome.TheVariants.{Applied, Missed}
 use Rattle.hs_unit.specs.Courses.{Asks, Course, attempt}
 use Rattle.hs_session.specs.Runs.{ComesTo, Run}
 use Rattle.hs_session.specs.Standing.{Made, outcome_made}
+use Rattle.hs_session.proofs.Runs.{asks_args, asks_rule}
 
 abbrev tries_rule : ℕ → Args → ℕ → Run
 tries_rule rule args fuel = λ outcomes. attempt rule args (record { fuel = fuel; outcomes = outcomes; outs = [] })
-
-asks_rule : {a b : ℕ} {x y : Args} → Asks a x ≡ Asks b y → a ≡ b
-asks_rule e = cc
-
-asks_args : {a b : ℕ} {x y : Args} → Asks a x ≡ Asks b y → x ≡ y
-asks_args e = cc
 
 never_again : (rule again fuel : ℕ) (args more : Args) (o : Outcome) → tries_rule rule args (suc fuel) (o ∷ []) ≡ Asks again more → ⊥
 never_again rule again fuel args more (Applied outs) e = absurd (cc)

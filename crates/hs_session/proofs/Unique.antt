@@ -20,7 +20,7 @@ use Rattle.hs_session.proofs.Fronts.{parts}
 use Rattle.hs_session.proofs.Placing.{IsLawfulAt, front_theirs, lawful_along, rest_theirs, standing-append}
 use Rattle.hs_session.proofs.Replies.{answers_same}
 use Rattle.hs_session.proofs.Requests.{AskedBefore, asked_among, earlier_is_not, requests_rise}
-use Rattle.hs_session.proofs.Runs.{IsWell, well_behind}
+use Rattle.hs_session.proofs.Runs.{IsWell, well_after_entry}
 
 -- The graph after sound entries is as well formed.
 well_along : (rules : Rules) (before : List Entry) (g : Graph) (xs : List Entry) → IsWell rules g → All (IsSound rules) (standing_after rules before g xs) → IsWell rules (after_journal rules g xs)
@@ -28,21 +28,21 @@ well_along rules before g [] well sound = well
 well_along rules before g (x ∷ xs) well sound =
     let here : Standing = record { before = before; graph = g; entry = x } in
     let more : List Standing = standing_after rules (before ++ x ∷ []) (after_entry rules g x) xs in
-    well_along rules (before ++ x ∷ []) (after_entry rules g x) xs (well_behind rules g x well (All-head (IsSound rules) here more sound).0.tries) (All-tail (IsSound rules) here more sound)
+    well_along rules (before ++ x ∷ []) (after_entry rules g x) xs (well_after_entry rules g x well (All-head (IsSound rules) here more sound).0.tries) (All-tail (IsSound rules) here more sound)
 
 module _ (rules : Rules) (opening : Graph) where
   -- The entries after these answer the requests, one by one.
   abbrev AnswerFrom : List Entry → List Entry → Graph → List Entry → Asked → Reply → Type 0
   AnswerFrom journal before g rest asked reply = IsReply rules opening journal asked (entries_of asked (standing_after rules before g rest)) reply
 
-  answers_behind : (journal : List Entry) (a : Asked) (before : List Entry) (g : Graph) (xs rest : List Entry) (ks : List Asked) (rs : List Reply) → All (λ e. is_of a e ≡ true) xs → All (AskedBefore a) ks →
+  rest_answered : (journal : List Entry) (a : Asked) (before : List Entry) (g : Graph) (xs rest : List Entry) (ks : List Asked) (rs : List Reply) → All (λ e. is_of a e ≡ true) xs → All (AskedBefore a) ks →
       AllZip (AnswerFrom journal before g (xs ++ rest)) ks rs → AllZip (AnswerFrom journal (before ++ xs) (after_journal rules g xs) rest) ks rs
-  answers_behind journal a before g xs rest [] [] theirs first zip = tt
-  answers_behind journal a before g xs rest [] (r ∷ rs) theirs first zip = absurd zip
-  answers_behind journal a before g xs rest (k ∷ ks) [] theirs first zip = absurd zip
-  answers_behind journal a before g xs rest (k ∷ ks) (r ∷ rs) theirs first zip = (
+  rest_answered journal a before g xs rest [] [] theirs first zip = tt
+  rest_answered journal a before g xs rest [] (r ∷ rs) theirs first zip = absurd zip
+  rest_answered journal a before g xs rest (k ∷ ks) [] theirs first zip = absurd zip
+  rest_answered journal a before g xs rest (k ∷ ks) (r ∷ rs) theirs first zip = (
     subst (λ (l : List Standing). IsReply rules opening journal k l r) (rest_theirs rules k before g xs rest (All-weaker (λ e. is_of a e ≡ true) (λ e. is_of k e ≡ false) (λ e t. earlier_is_not a k e (All-head (AskedBefore a) k ks first) t) xs theirs)) zip.0,
-    answers_behind journal a before g xs rest ks rs theirs (All-tail (AskedBefore a) k ks first) zip.1,
+    rest_answered journal a before g xs rest ks rs theirs (All-tail (AskedBefore a) k ks first) zip.1,
   )
 
   -- What a journal's rest is, before these requests are served.
@@ -56,16 +56,16 @@ module _ (rules : Rules) (opening : Graph) where
   -- The first request's entries, its reply, and the rest.
   record IsFirst (journal : List Entry) (before : List Entry) (g : Graph) (a : Asked) (ks : List Asked) (rest : List Entry) (replies : List Reply) : Type 0 where
     front : List Entry
-    behind : List Entry
+    later : List Entry
     reply : Reply
-    replies_behind : List Reply
-    whole : rest ≡ front ++ behind
-    whole_replies : replies ≡ reply ∷ replies_behind
+    more_replies : List Reply
+    whole : rest ≡ front ++ later
+    whole_replies : replies ≡ reply ∷ more_replies
     sound : All (IsSound rules) (standing_after rules before g front)
     theirs : All (λ e. is_of a e ≡ true) front
     answer : IsReply rules opening journal a (standing_after rules before g front) reply
     decided : IsDecided reply
-    more : IsRest journal (before ++ front) (after_journal rules g front) ks behind replies_behind
+    more : IsRest journal (before ++ front) (after_journal rules g front) ks later more_replies
 
   first_of : (journal : List Entry) (before : List Entry) (g : Graph) (a : Asked) (ks : List Asked) (rest : List Entry) (replies : List Reply) → All (AskedBefore a) ks → IsRest journal before g (a ∷ ks) rest replies → IsFirst journal before g a ks rest replies
   first_of journal before g a ks rest [] first m = absurd m.answered
@@ -76,9 +76,9 @@ module _ (rules : Rules) (opening : Graph) where
       let zip : AllZip (AnswerFrom journal before g (p.front ++ p.rest)) (a ∷ ks) (r ∷ rs) = subst (λ (l : List Entry). AllZip (AnswerFrom journal before g l) (a ∷ ks) (r ∷ rs)) p.whole m.answered in
       record {
         front = p.front;
-        behind = p.rest;
+        later = p.rest;
         reply = r;
-        replies_behind = rs;
+        more_replies = rs;
         whole = p.whole;
         whole_replies = refl;
         sound = All-front (IsSound rules) (standing_after rules before g p.front) (standing_after rules (before ++ p.front) (after_journal rules g p.front) p.rest) sound;
@@ -89,7 +89,7 @@ module _ (rules : Rules) (opening : Graph) where
           sound = All-rest_of (IsSound rules) (standing_after rules before g p.front) (standing_after rules (before ++ p.front) (after_journal rules g p.front) p.rest) sound;
           in_order = p.in_order;
           among = p.among;
-          answered = answers_behind journal a before g p.front p.rest ks rs p.theirs first zip.1;
+          answered = rest_answered journal a before g p.front p.rest ks rs p.theirs first zip.1;
           decided = All-tail IsDecided r rs m.decided;
         };
       }
@@ -109,8 +109,8 @@ module _ (rules : Rules) (opening : Graph) where
       let x = first_of first before g a ks xs rs rise.0 m in
       let y = first_of second before g a ks ys qs rise.0 n in
       let here = answers_same rules opening first second a before g well x.front y.front x.reply y.reply x.sound y.sound x.theirs y.theirs x.decided y.decided x.answer y.answer in
-      let more_y : IsRest second (before ++ x.front) (after_journal rules g x.front) ks y.behind y.replies_behind = subst (λ (l : List Entry). IsRest second (before ++ l) (after_journal rules g l) ks y.behind y.replies_behind) (sym here.0) y.more in
-      let rest = rests_same first second ks (before ++ x.front) (after_journal rules g x.front) x.behind y.behind x.replies_behind y.replies_behind (well_along rules before g x.front well x.sound) rise.1 x.more more_y in
+      let more_y : IsRest second (before ++ x.front) (after_journal rules g x.front) ks y.later y.more_replies = subst (λ (l : List Entry). IsRest second (before ++ l) (after_journal rules g l) ks y.later y.more_replies) (sym here.0) y.more in
+      let rest = rests_same first second ks (before ++ x.front) (after_journal rules g x.front) x.later y.later x.more_replies y.more_replies (well_along rules before g x.front well x.sound) rise.1 x.more more_y in
       (x.whole ∙ (λ i. here.0 i ++ rest.0 i) ∙ sym y.whole, x.whole_replies ∙ (λ i. here.1 i ∷ rest.1 i) ∙ sym y.whole_replies)
 
   whole_rest : (sessions : List (List Request)) (report : Report) → IsSerialReport rules opening sessions report → All IsDecided report.replies → IsRest report.journal [] opening (all_asked sessions) report.journal report.replies

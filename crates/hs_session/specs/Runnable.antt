@@ -25,6 +25,6 @@ pub record IsRunnable (g : Graph) (rule : Rule) : Type 0 where
   pub room : HasRoomFor g rule
 
 -- The word on the one attempt at a rule.
-abbrev pub word_of : Outcome → Word
-word_of (Applied found new old gone) = word.Ok
-word_of Missed = word.NoMatch
+abbrev pub outcome_word : Outcome → Word
+outcome_word (Applied found new old gone) = word.Ok
+outcome_word Missed = word.NoMatch

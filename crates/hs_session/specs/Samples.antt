@@ -97,8 +97,8 @@ second_asked = record { session = 0; number = 1; request = (asks (codes "rule") 
 abbrev pub one_arg : Args
 one_arg = record { list = object_arg (codes "x") (codes "c1") ∷ [] }
 
--- The first request of the first session opens an account for the client c1. Its argument is a text,
--- as it is read.
+-- The first request of the first session opens an account for the client c1. Its argument is a
+-- text, as it is read.
 abbrev pub opening : Request
 opening = record {
   call = codes "rule";

@@ -54,7 +54,8 @@ pub fn rules_are_tried_once()
         → ComesTo rules (run_of rules (callee.Rule rule) args fuel number) made course
         → (made ≡ [])
         ⊎ ((one : Made) × (made ≡ one ∷ []) × (one.tried.rule ≡ rule) × (one.tried.args ≡ args)
-        × (course ≡ run_of rules (callee.Rule rule) args fuel number (outcome_made rules one ∷ []))) }
+        × (course
+        ≡ run_of rules (callee.Rule rule) args fuel number (outcome_made rules one ∷ []))) }
 {}
 
 /// One request of one session, as [`run_serial`](crate::run_serial) takes it, has exactly one

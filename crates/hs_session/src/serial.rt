@@ -13,7 +13,7 @@ ghost use Rattle.hs_types.specs.ValidMatch.{IsLeast, IsValid};
 ghost use Rattle.hs_types.specs.Arguments.{no_args};
 ghost use Rattle.hs_types.specs.Additions.{OnlyAdds};
 ghost use Rattle.hs_session.specs.Requests.{callee_named};
-ghost use Rattle.hs_session.specs.Runnable.{IsRunnable, word_of};
+ghost use Rattle.hs_session.specs.Runnable.{IsRunnable, outcome_word};
 ghost use Rattle.hs_session.specs.SerialReport.{IsLeastOutcome, IsSerialReport};
 ghost use Rattle.hs_session.specs.Standing.{no_outs};
 
@@ -119,7 +119,7 @@ fn reply_of(alloc: Global, outcome: &Outcome) -> Result<Reply, AllocError>
         (λ reply. reply ≡ record {
           session = 0;
           request = 0;
-          word = word_of outcome.now;
+          word = outcome_word outcome.now;
           places = 0 ∷ [];
           outs = no_outs;
         }) }
@@ -127,7 +127,7 @@ fn reply_of(alloc: Global, outcome: &Outcome) -> Result<Reply, AllocError>
     Ok(Reply {
         session: 0,
         request: 0,
-        word: word_of(outcome),
+        word: outcome_word(outcome),
         places: one(alloc, 0)?,
         outs: Outs {
             list: List::new(alloc),
@@ -135,8 +135,8 @@ fn reply_of(alloc: Global, outcome: &Outcome) -> Result<Reply, AllocError>
     })
 }
 
-fn word_of(outcome: &Outcome) -> Word
-    ensures { result ≡ word_of outcome.now }
+fn outcome_word(outcome: &Outcome) -> Word
+    ensures { result ≡ outcome_word outcome.now }
 {
     match outcome {
         Outcome::Applied { .. } => Word::Ok,

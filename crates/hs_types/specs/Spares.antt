@@ -52,8 +52,9 @@ pub record LeavesKinds (m : Metamodel) (plan : Plan) (multi : Multi) : Type 0 wh
   pub slots : All (λ slot. touches_kind plan slot.kind ≡ false) multi.shape.slots
 
 -- A plan spares a match, and these extensions onto the require parts, where it drops none of their
--- objects and edges, touches no slot that the kernel uses, makes no edge at an object that the match
--- drops, makes no extension onto a forbid part, and leaves the kinds of the multi-rules alone.
+-- objects and edges, touches no slot that the kernel uses, makes no edge at an object that the
+-- match drops, makes no extension onto a forbid part, and leaves the kinds of the multi-rules
+-- alone.
 pub record Spares (m : Metamodel) (g : Graph) (plan : Plan) (rule : Rule) (f : Match)
     (supports : List Extension) : Type 0 where
   pub objects : Apart (all_nodes_of rule f ++ flat_map (λ x. x.nodes) supports) plan.drop_objects

@@ -23,8 +23,8 @@ call_with called binds = record { callee = called; binds = binds }
 abbrev pub rule_call : ℕ → Call
 rule_call n = call_with (callee.Rule n) []
 
-abbrev pub unit_call : Call
-unit_call = call_with (callee.Unit 1) []
+abbrev pub calls_unit : Call
+calls_unit = call_with (callee.Unit 1) []
 
 -- A call of rule 1 whose out parameter x becomes the unit's v, and one of rule 2 that is given v.
 abbrev pub x : List ℕ
@@ -60,12 +60,12 @@ abbrev pub number : ℤ → Args
 number k = record { list = record { name = n; arg = arg.Value (value.Int k) } ∷ [] }
 
 -- The course of unit 0 among units with these bodies, in a session's request 4.
-abbrev pub units_of : List Body → List RuleUnit
-units_of bodies = map (λ body. record { name = []; params = []; body = body }) bodies
+abbrev pub units_with : List Body → List RuleUnit
+units_with bodies = map (λ body. record { name = []; params = []; body = body }) bodies
 
 abbrev pub first_with : Args → List Body → ℕ → List Outcome → Course
 first_with args bodies fuel outcomes =
-    course (units_of bodies) 4 (callee.Unit 0) args fuel outcomes
+    course (units_with bodies) 4 (callee.Unit 0) args fuel outcomes
 
 abbrev pub first_of : List Body → ℕ → List Outcome → Course
 first_of = first_with no_args

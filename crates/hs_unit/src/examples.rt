@@ -8,7 +8,7 @@ ghost use Rattle.hs_types.specs.Arguments.{no_args};
 ghost use Rattle.hs_unit.specs.Courses.{Asks, Done, Failed, Fuel, course};
 ghost use Rattle.hs_unit.specs.declared.outcome.Outcome.TheVariants.{Missed};
 ghost use Rattle.hs_unit.specs.Samples as sample;
-ghost use Rattle.hs_unit.specs.Samples.{first_of, first_with, fuel_left, gave_c, gave_none, giving, rule_call, taking, unit_call, with_c};
+ghost use Rattle.hs_unit.specs.Samples.{first_of, first_with, fuel_left, gave_c, gave_none, giving, rule_call, taking, calls_unit, with_c};
 
 /// Each body, to its end: which calls it makes, and when it succeeds.
 pub fn units_tried()
@@ -42,7 +42,7 @@ pub fn turns_tried()
     ensures loop_ends { first_of (Loop (rule_call 7) ∷ []) 5 (gave_none ∷ Missed ∷ [])
         ≡ Done (fuel_left 1) }
     ensures loop_without_fuel { first_of (Loop (rule_call 7) ∷ []) 3 (gave_none ∷ []) ≡ Fuel }
-    ensures turn_and_unit_take_fuel { first_of (Loop unit_call ∷ Sequential [] ∷ []) 5 [] ≡ Fuel }
+    ensures turn_and_unit_take_fuel { first_of (Loop calls_unit ∷ Sequential [] ∷ []) 5 [] ≡ Fuel }
     ensures counted { first_of (Iterated (count.Literal (pos 2)) (rule_call 7) ∷ []) 9
         (gave_none ∷ gave_none ∷ []) ≡ Done (fuel_left 5) }
     ensures counted_to_failure { first_of (Iterated (count.Literal (pos 2)) (rule_call 7) ∷ []) 9
