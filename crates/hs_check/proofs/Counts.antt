@@ -15,7 +15,6 @@ use Rattle.hs_expr.specs.Verdict.{each, verdict}
 use Rattle.hs_text.specs.declared.syntax.Definition.{Definition}
 use Rattle.hs_text.specs.declared.syntax.Rule.{Rule as WrittenRule}
 use Rattle.hs_types.specs.declared.meta.Metamodel.{Metamodel}
-use Rattle.hs_types.specs.declared.rule.PatternNode.{PatternNode}
 use Rattle.hs_types.specs.declared.rule.Rule.{Rule}
 use Rattle.hs_faults.specs.declared.nodes.BlockId.{BlockId}
 use Rattle.hs_faults.specs.declared.nodes.BlockId.TheVariants as home
@@ -32,7 +31,7 @@ use Rattle.hs_check.specs.Counts.{KeepAll, counts_in, is_set_of, is_where_of, mu
 use Rattle.hs_check.specs.Expressions.{set_in, set_meant, sets_in, where_in, wheres_in}
 use Rattle.hs_check.specs.Rules.{multi_at, multi_meant, rule_meant, rules_meant}
 use Rattle.hs_faults.specs.Contents.{rule_contents}
-use Rattle.hs_check.proofs.PartForms.{checked_in, names_in, said_in, visible_nodes}
+use Rattle.hs_check.proofs.PartForms.{checked_in, names_in, said_in}
 use Rattle.hs_expr.proofs.Faults.{none-from_verdict}
 use Rattle.hs_check.proofs.Parts.{kernel_of}
 use Rattle.hs_check.proofs.Filters.{filter_map-map, list_all-at}
@@ -70,7 +69,7 @@ expr_kept names value k of_kind few =
 
 -- ---- one part of a rule
 
-module _ (m : Metamodel) (rule : WrittenRule) (clean : Clean m rule) (part : BlockId) (before : List PatternNode) where
+module _ (m : Metamodel) (rule : WrittenRule) (clean : Clean m rule) (part : BlockId) where
   flat_at : (k : ℕ) (s : Statement) → slice_get (statements rule.items) k ≡ Some s → is_flat m (data_params rule.params) (declared_nodes rule.items) s ≡ true
   flat_at k s at = list_all-at (is_flat m (data_params rule.params) (declared_nodes rule.items)) (statements rule.items) k s
       (and_parts (sizes_fit rule.params (blocks rule.items) (declared_nodes rule.items) (statements rule.items)) (list_all (is_flat m (data_params rule.params) (declared_nodes rule.items)) (statements rule.items)) clean.limits).1 at
@@ -92,29 +91,29 @@ module _ (m : Metamodel) (rule : WrittenRule) (clean : Clean m rule) (part : Blo
       go false = refl
       go true = kept k (Where home word test) at
 
-  set_counts : (k : ℕ) (s : Statement) → slice_get (statements rule.items) k ≡ Some s → is_some (set_in m (visible_nodes m rule part before) part (checked_in m rule s)) ≡ is_set_of part s
+  set_counts : (k : ℕ) (s : Statement) → slice_get (statements rule.items) k ≡ Some s → is_some (set_in m (declared_nodes rule.items) part (checked_in m rule s)) ≡ is_set_of part s
   set_counts k (Edge home mark source target reference) at = refl
   set_counts k (Where home word test) at = refl
   set_counts k (Set home node attribute value) at = go (same_block part home)
     where
-      go : (b : Bool) → is_some (if b then option_map (set_meant m (visible_nodes m rule part before) node.text attribute.text) (expr_found (expr_checked (names_in m rule home) value)) else None) ≡ b
+      go : (b : Bool) → is_some (if b then option_map (set_meant m (declared_nodes rule.items) node.text attribute.text) (expr_found (expr_checked (names_in m rule home) value)) else None) ≡ b
       go false = refl
-      go true = some_mapped (set_meant m (visible_nodes m rule part before) node.text attribute.text) (expr_found (expr_checked (names_in m rule home) value)) (kept k (Set home node attribute value) at)
+      go true = some_mapped (set_meant m (declared_nodes rule.items) node.text attribute.text) (expr_found (expr_checked (names_in m rule home) value)) (kept k (Set home node attribute value) at)
 
-  part_counts : (length (wheres_in (said_in m rule) part), length (sets_in m (visible_nodes m rule part before) (said_in m rule) part)) ≡ counts_in (statements rule.items) part
+  part_counts : (length (wheres_in (said_in m rule) part), length (sets_in m (declared_nodes rule.items) (said_in m rule) part)) ≡ counts_in (statements rule.items) part
   part_counts = ap₂ (λ (a b : ℕ). (a, b))
       (ap length (filter_map-map (where_in part) (checked_in m rule) (statements rule.items)) ∙ as_many (is_where_of part) (λ s. where_in part (checked_in m rule s)) (statements rule.items) where_counts)
-      (ap length (filter_map-map (set_in m (visible_nodes m rule part before) part) (checked_in m rule) (statements rule.items)) ∙ as_many (is_set_of part) (λ s. set_in m (visible_nodes m rule part before) part (checked_in m rule s)) (statements rule.items) set_counts)
+      (ap length (filter_map-map (set_in m (declared_nodes rule.items) part) (checked_in m rule) (statements rule.items)) ∙ as_many (is_set_of part) (λ s. set_in m (declared_nodes rule.items) part (checked_in m rule s)) (statements rule.items) set_counts)
 
 -- ---- the whole rule
 
 multis_counted : (m : Metamodel) (rule : WrittenRule) → Clean m rule → (parts : List BlockId) → map multi_counts (map (multi_meant m (rule_contents m rule) (kernel_of m rule)) parts) ≡ map (counts_in (statements rule.items)) parts
 multis_counted m rule clean [] = refl
-multis_counted m rule clean (part ∷ parts) = ap₂ (λ (c : ℕ × ℕ) (cs : List (ℕ × ℕ)). c ∷ cs) (part_counts m rule clean part (kernel_of m rule)) (multis_counted m rule clean parts)
+multis_counted m rule clean (part ∷ parts) = ap₂ (λ (c : ℕ × ℕ) (cs : List (ℕ × ℕ)). c ∷ cs) (part_counts m rule clean part) (multis_counted m rule clean parts)
 
 rule_counted : (m : Metamodel) (rule : WrittenRule) → Clean m rule → rule_counts (rule_meant m rule) ≡ written_counts rule
 rule_counted m rule clean =
-    ap₂ (λ (c : ℕ × ℕ) (cs : List (ℕ × ℕ)). c ∷ cs) (part_counts m rule clean home.Kernel [])
+    ap₂ (λ (c : ℕ × ℕ) (cs : List (ℕ × ℕ)). c ∷ cs) (part_counts m rule clean home.Kernel)
     (multis_counted m rule clean (each multi_at rule.items))
 
 rules_counted : (m : Metamodel) (rules : List WrittenRule) → All (Clean m) rules → map rule_counts (map (rule_meant m) rules) ≡ map written_counts rules

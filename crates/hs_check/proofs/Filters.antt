@@ -174,15 +174,6 @@ find-filter_map {A} {B} p q f (z ∷ xs) x y agree e made = go (p z) refl e (fin
         ap (λ (o : Option B). find q (cons_option o (filter_map f xs))) same ∙ chosen (q y) (agree z y same ∙ t) (find q (filter_map f xs))
     go false t e rest = later (f z) refl t (rest e made)
 
--- Where the front has none, the first that passes follows it.
-pub found_behind : {A : Type 0} (p : A → Bool) (xs ys : List A) → find p xs ≡ None → length xs ≤ position_or_len p (xs ++ ys)
-found_behind p [] ys e = omega arith
-found_behind {A} p (x ∷ xs) ys e = go (p x) e (found_behind p xs ys)
-  where
-    go : (b : Bool) → cond b (Some x) (find p xs) ≡ None → (find p xs ≡ None → length xs ≤ position_or_len p (xs ++ ys)) → suc (length xs) ≤ cond (not b) (1 + position_or_len p (xs ++ ys)) 0
-    go true e rest = absurd (none-some x (sym e))
-    go false e rest = let low = rest e in omega arith
-
 -- What is found of the items is found of what is made of them.
 pub any_made : {A B : Type 0} (p : A → Bool) (q : B → Bool) (f : A → B) (xs : List A) → ((x : A) → q (f x) ≡ p x) → is_some (find p xs) ≡ true → list_any q (map f xs) ≡ true
 any_made p q f [] agree e = absurd (false≢true e)

@@ -136,10 +136,10 @@ nodes_by_parts m rule =
     let forbids = each forbid_at rule.items in
     let requires = each require_at rule.items in
     let multis = each multi_at rule.items in
-    ap (λ (f : List PatternNode). kernel ++ f ++ flat_map (λ (part : Part). part.nodes) (map (part_meant m (rule_contents m rule) kernel) requires) ++ flat_map (λ (multi : Multi). multi.shape.nodes) (map (multi_meant m (rule_contents m rule) kernel) multis))
-    (flat_mapped (λ (part : Part). part.nodes) (part_meant m (rule_contents m rule) kernel) forbids)
+    ap (λ (f : List PatternNode). kernel ++ f ++ flat_map (λ (part : Part). part.nodes) (map (part_meant m (rule_contents m rule)) requires) ++ flat_map (λ (multi : Multi). multi.shape.nodes) (map (multi_meant m (rule_contents m rule) kernel) multis))
+    (flat_mapped (λ (part : Part). part.nodes) (part_meant m (rule_contents m rule)) forbids)
     ∙ ap (λ (f : List PatternNode). kernel ++ flat_map nodes forbids ++ f ++ flat_map (λ (multi : Multi). multi.shape.nodes) (map (multi_meant m (rule_contents m rule) kernel) multis))
-    (flat_mapped (λ (part : Part). part.nodes) (part_meant m (rule_contents m rule) kernel) requires)
+    (flat_mapped (λ (part : Part). part.nodes) (part_meant m (rule_contents m rule)) requires)
     ∙ ap (λ (f : List PatternNode). kernel ++ flat_map nodes forbids ++ flat_map nodes requires ++ f)
     (flat_mapped (λ (multi : Multi). multi.shape.nodes) (multi_meant m (rule_contents m rule) kernel) multis)
     ∙ joined nodes kernel forbids requires multis

@@ -89,9 +89,9 @@ nodes_fit m rule clean part =
 -- ---- edges
 
 module _ (m : Metamodel) (rule : Rule) (clean : Clean m rule) (part : BlockId) (before : List PatternNode) (opens : Opens m (declared_nodes rule.items) part before) where
-  pub edges_fit : All (λ edge. EdgeFits m (end_test part edge.mark) (visible_nodes m rule part before) edge) (edges_of_part m (visible_nodes m rule part before) (said_in m rule) part)
-  edges_fit = All-made (λ (edge : PatternEdge). EdgeFits m (end_test part edge.mark) (visible_nodes m rule part before) edge) (edge_in m (visible_nodes m rule part before) part) (checked_in m rule) (statements rule.items) (λ k s edge at made.
-      let is = edge_made m (visible_nodes m rule part before) part s edge made in
+  pub edges_fit : All (λ edge. EdgeFits m (end_test part edge.mark) (visible_nodes m rule part before) edge) (edges_of_part m (declared_nodes rule.items) (said_in m rule) part)
+  edges_fit = All-made (λ (edge : PatternEdge). EdgeFits m (end_test part edge.mark) (visible_nodes m rule part before) edge) (edge_in m (declared_nodes rule.items) part) (checked_in m rule) (statements rule.items) (λ k s edge at made.
+      let is = edge_made m (declared_nodes rule.items) part s edge made in
       let right = subst (IsRight m rule k) is.is (clean.said k s at) in
       subst (λ (edge : PatternEdge). EdgeFits m (end_test part edge.mark) (visible_nodes m rule part before) edge) is.whole (edge_fits m (declared_nodes rule.items) part before opens is.mark is.source is.target is.reference right))
 

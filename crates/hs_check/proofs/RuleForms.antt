@@ -35,9 +35,9 @@ few_requires m rule clean = each_passes (has_few (declared_nodes rule.items) (st
 pub few_multis : (m : Metamodel) (rule : WrittenRule) → Clean m rule → All (IsFewPart rule) (each multi_at rule.items)
 few_multis m rule clean = each_passes (has_few (declared_nodes rule.items) (statements rule.items)) multi_at (multi_passes (has_few (declared_nodes rule.items) (statements rule.items))) 0 rule.items (is_few m rule clean).each_block
 
-parts_fit : (m : Metamodel) (rule : WrittenRule) → Clean m rule → (parts : List BlockId) → All (λ h. is_pattern h ≡ true) parts → All (IsFewPart rule) parts → All (IsPart m (rule_meant m rule)) (map (part_meant m (rule_contents m rule) (kernel_of m rule)) parts)
-parts_fit m rule clean parts patterns few = All-map (IsPart m (rule_meant m rule)) (part_meant m (rule_contents m rule) (kernel_of m rule)) parts
-    (All-from (λ (h : BlockId). IsPart m (rule_meant m rule) (part_meant m (rule_contents m rule) (kernel_of m rule) h)) parts (λ k h at.
+parts_fit : (m : Metamodel) (rule : WrittenRule) → Clean m rule → (parts : List BlockId) → All (λ h. is_pattern h ≡ true) parts → All (IsFewPart rule) parts → All (IsPart m (rule_meant m rule)) (map (part_meant m (rule_contents m rule)) parts)
+parts_fit m rule clean parts patterns few = All-map (IsPart m (rule_meant m rule)) (part_meant m (rule_contents m rule)) parts
+    (All-from (λ (h : BlockId). IsPart m (rule_meant m rule) (part_meant m (rule_contents m rule) h)) parts (λ k h at.
     part_fits m rule clean h (All-at (λ (h : BlockId). is_pattern h ≡ true) parts k h patterns at) (All-at (IsFewPart rule) parts k h few at)))
 
 multis_fit : (m : Metamodel) → IsMeta m → (rule : WrittenRule) → Clean m rule → All (IsMulti m (rule_meant m rule)) (map (multi_meant m (rule_contents m rule) (kernel_of m rule)) (each multi_at rule.items))

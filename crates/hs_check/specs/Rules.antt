@@ -44,30 +44,20 @@ multi_at i (item.Require elements) = []
 multi_at i (item.Multi simples) = home.Multi i ∷ []
 
 -- A forbid or require block. The numbers of its nodes go on from the kernel's.
-abbrev pub part_with : Metamodel → RuleContents → List PatternNode → List PatternNode → BlockId
-    → Part
-part_with m contents kernel own part = record {
-  nodes = own;
-  edges = edges_of_part m (kernel ++ own) contents.statements part;
+abbrev pub part_meant : Metamodel → RuleContents → BlockId → Part
+part_meant m contents part = record {
+  nodes = nodes_in m contents.nodes part;
+  edges = edges_of_part m contents.nodes contents.statements part;
 }
 
-abbrev pub part_meant : Metamodel → RuleContents → List PatternNode → BlockId → Part
-part_meant m contents kernel part =
-    part_with m contents kernel (nodes_in m contents.nodes part) part
-
--- The block with these nodes of its own, after those that have numbers before them.
-abbrev pub block_with : Metamodel → RuleContents → List PatternNode → List PatternNode → BlockId
-    → Block
-block_with m contents before own part = record {
-  nodes = own;
-  edges = edges_of_part m (before ++ own) contents.statements part;
+-- The kernel or a multi block.
+abbrev pub block_meant : Metamodel → RuleContents → BlockId → Block
+block_meant m contents part = record {
+  nodes = nodes_in m contents.nodes part;
+  edges = edges_of_part m contents.nodes contents.statements part;
   wheres = wheres_in contents.statements part;
-  sets = sets_in m (before ++ own) contents.statements part;
+  sets = sets_in m contents.nodes contents.statements part;
 }
-
-abbrev pub block_meant : Metamodel → RuleContents → List PatternNode → BlockId → Block
-block_meant m contents before part =
-    block_with m contents before (nodes_in m contents.nodes part) part
 
 -- The block with its slots: those of its nodes, the first of which has this number, that are read
 -- or set.
@@ -87,7 +77,7 @@ multi_of m first block = record {
 }
 
 abbrev pub multi_meant : Metamodel → RuleContents → List PatternNode → BlockId → Multi
-multi_meant m contents kernel part = multi_of m (length kernel) (block_meant m contents kernel part)
+multi_meant m contents kernel part = multi_of m (length kernel) (block_meant m contents part)
 
 -- What a rule reads, its multi-rules included.
 abbrev pub reads_with : Block → List Multi → List SlotRead
@@ -102,8 +92,8 @@ rule_with m contents kernel multis = record {
   name = contents.rule.name.text;
   params = params_meant m contents.rule.params;
   shape = shape_with m (reads_with kernel multis) 0 kernel;
-  forbids = map (part_meant m contents kernel.nodes) (each forbid_at contents.rule.items);
-  needs = map (part_meant m contents kernel.nodes) (each require_at contents.rule.items);
+  forbids = map (part_meant m contents) (each forbid_at contents.rule.items);
+  needs = map (part_meant m contents) (each require_at contents.rule.items);
   multis = multis;
   wheres = kernel.wheres;
   sets = kernel.sets;
@@ -116,7 +106,7 @@ rule_around m contents kernel =
     (map (multi_meant m contents kernel.nodes) (each multi_at contents.rule.items))
 
 abbrev pub rule_from : Metamodel → RuleContents → Rule
-rule_from m contents = rule_around m contents (block_meant m contents [] home.Kernel)
+rule_from m contents = rule_around m contents (block_meant m contents home.Kernel)
 
 abbrev pub rule_meant : Metamodel → WrittenRule → Rule
 rule_meant m rule = rule_from m (rule_contents m rule)

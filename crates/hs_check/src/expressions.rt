@@ -4,10 +4,9 @@ ghost use Rattle.std.specs.Prelude.{◌≡◌, ◌++◌, ◌∷◌, [], IfOk, On
 ghost use Rattle.hs_check.specs.Expressions as spec;
 
 use crate::elements::{feature_number, node_number};
-use crate::visible_nodes::VisibleNodes;
 use hs_expr::{Expr, List};
 use hs_faults::statements::{CheckedStatement, StatementKind};
-use hs_faults::{BlockId, same_block};
+use hs_faults::{BlockId, DeclaredNode, same_block};
 use hs_types::{Meta, SetItem};
 use sqlite_items::Boxed;
 use std::alloc::{AllocError, Global};
@@ -80,17 +79,16 @@ pub fn wheres_in(
 
 fn set_meant(
     meta: &Meta,
-    nodes: &VisibleNodes<'_>,
+    declared: &[DeclaredNode],
     node: &str,
     attribute: &str,
     value: Expr,
 ) -> SetItem
-    ensures { result ≡ spec.set_meant meta.now nodes.now node.now attribute.now value }
+    ensures { result ≡ spec.set_meant meta.now declared.now node.now attribute.now value }
 {
-    let number = node_number(nodes, node);
     SetItem {
-        node: number,
-        attribute: feature_number(meta, nodes, number, attribute),
+        node: node_number(declared, node),
+        attribute: feature_number(meta, declared, node, attribute),
         value,
     }
 }
@@ -99,11 +97,11 @@ fn set_meant(
 fn set_in(
     alloc: Global,
     meta: &Meta,
-    nodes: &VisibleNodes<'_>,
+    declared: &[DeclaredNode],
     part: BlockId,
     checked: &CheckedStatement<'_>,
 ) -> Result<Option<SetItem>, AllocError>
-    ensures { IfOk result (λ item. item ≡ spec.set_in meta.now nodes.now part checked.now) }
+    ensures { IfOk result (λ item. item ≡ spec.set_in meta.now declared.now part checked.now) }
 {
     match (checked.statement.kind, &checked.expr) {
         (
@@ -116,7 +114,7 @@ fn set_in(
         ) if same_block(part, checked.statement.block) => {
             Ok(Some(set_meant(
                 meta,
-                nodes,
+                declared,
                 node.text.as_str(),
                 attribute.text.as_str(),
                 copy_of(alloc, value)?,
@@ -130,15 +128,15 @@ fn set_in(
 fn add_set(
     alloc: Global,
     meta: &Meta,
-    nodes: &VisibleNodes<'_>,
+    declared: &[DeclaredNode],
     sets: &mut List<SetItem>,
     statement: &CheckedStatement<'_>,
     part: BlockId,
 ) -> Result<(), AllocError>
     ensures { OnOk result
-        (sets.new ≡ sets.old ++ spec.sets_in meta.now nodes.now (statement.now ∷ []) part) }
+        (sets.new ≡ sets.old ++ spec.sets_in meta.now declared.now (statement.now ∷ []) part) }
 {
-    if let Some(item) = set_in(alloc, meta, nodes, part, statement)? {
+    if let Some(item) = set_in(alloc, meta, declared, part, statement)? {
         sets.push(item)?;
     }
     Ok(())
@@ -148,15 +146,15 @@ fn add_set(
 pub fn sets_in(
     alloc: Global,
     meta: &Meta,
-    nodes: &VisibleNodes<'_>,
+    declared: &[DeclaredNode],
     statements: &[CheckedStatement<'_>],
     part: BlockId,
 ) -> Result<List<SetItem>, AllocError>
-    ensures { IfOk result (λ sets. sets ≡ spec.sets_in meta.now nodes.now statements.now part) }
+    ensures { IfOk result (λ sets. sets ≡ spec.sets_in meta.now declared.now statements.now part) }
 {
     let mut sets = List::new(alloc);
     for statement in statements {
-        add_set(alloc, meta, nodes, &mut sets, statement, part)?;
+        add_set(alloc, meta, declared, &mut sets, statement, part)?;
     }
     Ok(sets)
 }

@@ -56,15 +56,14 @@ fn parts_meant(
     alloc: Global,
     meta: &Meta,
     contents: &RuleContents<'_>,
-    kernel: &[PatternNode],
     homes: &[BlockId],
 ) -> Result<List<Part>, AllocError>
     ensures { IfOk result
-        (λ parts. parts ≡ map (spec.part_meant meta.now contents.now kernel.now) homes.now) }
+        (λ parts. parts ≡ map (spec.part_meant meta.now contents.now) homes.now) }
 {
     let mut parts = List::new(alloc);
     for home in homes {
-        parts.push(part_meant(alloc, meta, contents, kernel, *home)?)?;
+        parts.push(part_meant(alloc, meta, contents, *home)?)?;
     }
     Ok(parts)
 }
@@ -146,28 +145,26 @@ fn forbids_meant(
     alloc: Global,
     meta: &Meta,
     contents: &RuleContents<'_>,
-    kernel: &[PatternNode],
 ) -> Result<List<Part>, AllocError>
     ensures { IfOk result
-        (λ parts. parts ≡ map (spec.part_meant meta.now contents.now kernel.now)
+        (λ parts. parts ≡ map (spec.part_meant meta.now contents.now)
         (each spec.forbid_at contents.now.rule.items)) }
 {
     let homes = forbids(alloc, contents.rule.items.as_slice())?;
-    parts_meant(alloc, meta, contents, kernel, homes.as_slice())
+    parts_meant(alloc, meta, contents, homes.as_slice())
 }
 
 fn needs_meant(
     alloc: Global,
     meta: &Meta,
     contents: &RuleContents<'_>,
-    kernel: &[PatternNode],
 ) -> Result<List<Part>, AllocError>
     ensures { IfOk result
-        (λ parts. parts ≡ map (spec.part_meant meta.now contents.now kernel.now)
+        (λ parts. parts ≡ map (spec.part_meant meta.now contents.now)
         (each spec.require_at contents.now.rule.items)) }
 {
     let homes = requires_of(alloc, contents.rule.items.as_slice())?;
-    parts_meant(alloc, meta, contents, kernel, homes.as_slice())
+    parts_meant(alloc, meta, contents, homes.as_slice())
 }
 
 /// The rule with this kernel and these multi-rules.
@@ -182,8 +179,8 @@ fn rule_with(
         (λ meant. meant ≡ spec.rule_with meta.now contents.now kernel multis) }
 {
     let slots = kernel_slots(alloc, meta, &kernel, multis.as_slice())?;
-    let forbids = forbids_meant(alloc, meta, contents, kernel.nodes.as_slice())?;
-    let needs = needs_meant(alloc, meta, contents, kernel.nodes.as_slice())?;
+    let forbids = forbids_meant(alloc, meta, contents)?;
+    let needs = needs_meant(alloc, meta, contents)?;
     Ok(Rule {
         name: contents.rule.name.text.clone()?,
         params: params_meant(alloc, meta, contents.rule.params.as_slice())?,
@@ -218,7 +215,7 @@ fn rule_around(
 fn rule_from(alloc: Global, meta: &Meta, contents: &RuleContents<'_>) -> Result<Rule, AllocError>
     ensures { IfOk result (λ meant. meant ≡ spec.rule_from meta.now contents.now) }
 {
-    let kernel = block_meant(alloc, meta, contents, &[], BlockId::Kernel)?;
+    let kernel = block_meant(alloc, meta, contents, BlockId::Kernel)?;
     rule_around(alloc, meta, contents, kernel)
 }
 

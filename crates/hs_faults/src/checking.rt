@@ -1,6 +1,6 @@
 //! All rules and all units of a text.
 
-ghost use Rattle.std.specs.Prelude.{◌≡◌, ◌++◌, map};
+ghost use Rattle.std.specs.Prelude.{◌≡◌, map};
 ghost use Rattle.hs_expr.specs.Steps.{Gives, GivesWhere};
 ghost use Rattle.hs_expr.specs.Verdict.{verdict};
 ghost use Rattle.hs_faults.specs.Contents.{rule_contents};

@@ -9,7 +9,7 @@ use Rattle.hs_types.specs.declared.entry.Entry.{Entry}
 use Rattle.hs_types.specs.declared.graph.Graph.{Graph}
 use Rattle.hs_types.specs.Rules.{Rules}
 use Rattle.hs_types.specs.Journal.{IsLawful, IsLawfulEntry, after_entry, after_journal}
-use Rattle.hs_session.specs.Standing.{Standing, place_of, standing_after}
+use Rattle.hs_session.specs.Standing.{Standing, entry_place, standing_after}
 use Rattle.hs_session.specs.Requests.{Asked, is_of}
 use Rattle.hs_session.specs.Replies.{entries_of}
 
@@ -57,7 +57,7 @@ rest_theirs rules a before g xs ys none =
 
 -- Each entry of a lawful journal is lawful where it is.
 abbrev pub IsLawfulAt : Rules → Standing → Type 0
-IsLawfulAt rules s = IsLawfulEntry rules s.before s.graph (place_of s) s.entry
+IsLawfulAt rules s = IsLawfulEntry rules s.before s.graph (entry_place s) s.entry
 
 next_at : {A : Type 0} (xs : List A) (x : A) (ys : List A) → slice_get (xs ++ x ∷ ys) (length xs) ≡ Some x
 next_at [] x ys = refl

@@ -15,9 +15,9 @@ use Rattle.hs_session.specs.declared.report.Word.{Word}
 use Rattle.hs_session.specs.declared.report.Word.TheVariants as word
 use Rattle.hs_unit.specs.Courses.{Asks, Course, Done, Failed, Fuel}
 use Rattle.hs_session.specs.Runs.{ComesTo, IsOver, Run}
-use Rattle.hs_session.specs.Standing.{Standing, made_along, made_in, place_of, standing_after}
+use Rattle.hs_session.specs.Standing.{Standing, made_along, made_in, entry_place, standing_after}
 use Rattle.hs_session.specs.Requests.{Asked, callee_named, is_of}
-use Rattle.hs_session.specs.Replies.{run_for, IsBegun, IsCalled, IsDropped, IsGroup, IsRefused, IsReply, IsRun, IsServed, Says, is_ok, outs_for, word_for}
+use Rattle.hs_session.specs.Replies.{run_for, IsBegun, IsCalled, IsDropped, IsGroup, IsRefused, IsReply, IsUngrouped, IsDue, Says, is_ok, outs_for, word_for}
 use Rattle.hs_session.specs.SerialReport.{IsDecided}
 use Rattle.hs_session.proofs.Sound.{IsSound}
 use Rattle.hs_session.proofs.Placing.{nothing-placed}
@@ -56,7 +56,7 @@ outs_alike c d r q same words a b = a ∙ ap (λ w. outs_for w c) words ∙ ap (
 module _ (rules : Rules) (opening : Graph) (first second : List Entry) (a : Asked) (before : List Entry) (g : Graph) (well : IsWell rules g) where
   run_alike : (callee : Callee) (run : Run) (xs ys : List Entry) (r q : Reply) → All (IsSound rules) (standing_after rules before g xs) → All (IsSound rules) (standing_after rules before g ys) →
       All (λ e. is_of a e ≡ true) xs → All (λ e. is_of a e ≡ true) ys → IsDecided r → IsDecided q →
-      IsRun rules opening first a callee run (standing_after rules before g xs) r → IsRun rules opening second a callee run (standing_after rules before g ys) q → AreAlike xs ys r q
+      IsUngrouped rules opening first a callee run (standing_after rules before g xs) r → IsUngrouped rules opening second a callee run (standing_after rules before g ys) q → AreAlike xs ys r q
   run_alike callee run xs ys r q sx sy ax ay dr dq m n =
       let same = singles_same rules a before g run xs ys m.course n.course well sx sy ax ay m.single n.single m.comes_to n.comes_to (is_over callee m.course r m.says dr) (is_over callee n.course q n.says dq) in
       let words = words_alike callee m.course n.course r q same.1 m.says n.says dr dq in
@@ -147,7 +147,7 @@ module _ (rules : Rules) (opening : Graph) (first second : List Entry) (a : Aske
 
   served_alike : (callee : Option Callee) (xs ys : List Entry) (r q : Reply) → All (IsSound rules) (standing_after rules before g xs) → All (IsSound rules) (standing_after rules before g ys) →
       All (λ e. is_of a e ≡ true) xs → All (λ e. is_of a e ≡ true) ys → IsDecided r → IsDecided q →
-      IsServed rules opening first a (standing_after rules before g xs) r callee → IsServed rules opening second a (standing_after rules before g ys) q callee → AreAlike xs ys r q
+      IsDue rules opening first a (standing_after rules before g xs) r callee → IsDue rules opening second a (standing_after rules before g ys) q callee → AreAlike xs ys r q
   served_alike None xs ys r q sx sy ax ay dr dq m n = refused_alike rules before g xs ys r q word.NoCall m n dr dq
   served_alike (Some callee) xs ys r q sx sy ax ay dr dq m n = called_alike callee xs ys r q sx sy ax ay dr dq m n
 
@@ -159,5 +159,5 @@ module _ (rules : Rules) (opening : Graph) (first second : List Entry) (a : Aske
       let alike = served_alike (callee_named rules a.request.call) xs ys r q sx sy ax ay dr dq m.served n.served in
       let sessions : r.session ≡ q.session = m.of_session ∙ sym n.of_session in
       let requests : r.request ≡ q.request = m.of_request ∙ sym n.of_request in
-      let places : r.places ≡ q.places = m.at_places ∙ ap (λ (l : List Entry). map place_of (standing_after rules before g l)) alike.entries ∙ sym n.at_places in
+      let places : r.places ≡ q.places = m.at_places ∙ ap (λ (l : List Entry). map entry_place (standing_after rules before g l)) alike.entries ∙ sym n.at_places in
       (alike.entries, λ i. record { session = sessions i; request = requests i; word = alike.words i; places = places i; outs = alike.outs i })

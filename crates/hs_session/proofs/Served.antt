@@ -27,7 +27,7 @@ use Rattle.hs_unit.specs.declared.outcome.Outcome.TheVariants as outcome
 use Rattle.hs_unit.specs.Courses.{Asks, Course, Done, Failed, attempt}
 use Rattle.hs_session.specs.declared.report.Reply.{Reply}
 use Rattle.hs_session.specs.declared.report.Word.TheVariants as word
-use Rattle.hs_session.specs.Replies.{Fit, IsBegun, IsReply, IsRun, IsSingle, Says, outs_for, run_for, word_for}
+use Rattle.hs_session.specs.Replies.{Fit, IsBegun, IsReply, IsUngrouped, IsSingle, Says, outs_for, run_for, word_for}
 use Rattle.hs_session.specs.Requests.{Asked, IsAsked, args_for, callee_named, params_at}
 use Rattle.hs_session.specs.Runnable.{outcome_word}
 use Rattle.hs_session.specs.Runs.{ComesTo}
@@ -123,7 +123,7 @@ module _ (rules : Rules) (opening : Graph) (request : Request) (rule : Rule) (tr
   not_full (Applied found new old gone) e = cc
   not_full Missed e = cc
 
-  is_run : (fuel : ℕ) → request.fuel ≡ suc fuel → IsRun rules opening (first_entry tried ∷ []) (the_first request) (callee.Rule tried.rule) (run_for rules (the_first request) (callee.Rule tried.rule)) (here opening tried ∷ []) (first_reply tried.outcome)
+  is_run : (fuel : ℕ) → request.fuel ≡ suc fuel → IsUngrouped rules opening (first_entry tried ∷ []) (the_first request) (callee.Rule tried.rule) (run_for rules (the_first request) (callee.Rule tried.rule)) (here opening tried ∷ []) (first_reply tried.outcome)
   is_run fuel is = record {
     single = All-one (λ (s : Standing). IsSingle s.entry.what) (here opening tried) tt;
     course = ended fuel tried.outcome;
@@ -136,7 +136,7 @@ module _ (rules : Rules) (opening : Graph) (request : Request) (rule : Rule) (tr
   begun : IsBegun rules opening (first_entry tried ∷ []) (the_first request) (callee.Rule tried.rule) (run_for rules (the_first request) (callee.Rule tried.rule)) (here opening tried ∷ []) (first_reply tried.outcome) request.group
   begun = subst (IsBegun rules opening (first_entry tried ∷ []) (the_first request) (callee.Rule tried.rule) (run_for rules (the_first request) (callee.Rule tried.rule)) (here opening tried ∷ []) (first_reply tried.outcome)) (sym made.not_grouped) (go request.fuel refl request.some_fuel)
     where
-      go : (fuel : ℕ) → request.fuel ≡ fuel → 1 ≤ fuel → IsRun rules opening (first_entry tried ∷ []) (the_first request) (callee.Rule tried.rule) (run_for rules (the_first request) (callee.Rule tried.rule)) (here opening tried ∷ []) (first_reply tried.outcome)
+      go : (fuel : ℕ) → request.fuel ≡ fuel → 1 ≤ fuel → IsUngrouped rules opening (first_entry tried ∷ []) (the_first request) (callee.Rule tried.rule) (run_for rules (the_first request) (callee.Rule tried.rule)) (here opening tried ∷ []) (first_reply tried.outcome)
       go zero is low = absurd (omega (arith, low))
       go (suc fuel) is low = is_run fuel is
 

@@ -30,8 +30,8 @@ pub record IsCut (asked : Asked) (journal : List Entry) (cut : ℕ) : Type 0 whe
       (drop cut journal)
 
 -- The graph at a cut.
-abbrev pub graph_at : Rules → Graph → List Entry → ℕ → Graph
-graph_at rules opening journal cut = after_journal rules opening (take cut journal)
+abbrev pub graph_at_cut : Rules → Graph → List Entry → ℕ → Graph
+graph_at_cut rules opening journal cut = after_journal rules opening (take cut journal)
 
 -- A rule with arguments and a match.
 pub record Application : Type 0 where
@@ -50,7 +50,7 @@ abbrev pub plan_at : Rules → Graph → Application → Plan
 plan_at rules g a = plan_of rules.meta g a.rule a.args a.found
 
 -- The application is of the rule at this place with these arguments.
-pub record IsOf (rules : Rules) (rule : ℕ) (args : Args) (a : Application) : Type 0 where
+pub record IsApplicationOf (rules : Rules) (rule : ℕ) (args : Args) (a : Application) : Type 0 where
   pub rule_there : slice_get rules.rules rule ≡ Some a.rule
   pub args_same : a.args ≡ args
 
@@ -68,16 +68,16 @@ pub record IsFullBeside (rules : Rules) (opening : Graph) (journal : List Entry)
   pub is_cut : IsCut asked journal cut
   pub others : List Application
   pub few : length others < MAX_SESSIONS
-  pub others_valid : All (IsApplicable rules (graph_at rules opening journal cut)) others
+  pub others_valid : All (IsApplicable rules (graph_at_cut rules opening journal cut)) others
   pub earlier : ℕ
   pub not_later : earlier ≤ cut
   pub is_earlier_cut : IsCut asked journal earlier
   pub last : Application
-  pub last_of : IsOf rules rule args last
-  pub last_valid : IsApplicable rules (graph_at rules opening journal earlier) last
-  pub passes : Pass (graph_at rules opening journal cut)
-      (plan_at rules (graph_at rules opening journal earlier) last
-      ∷ map (plan_at rules (graph_at rules opening journal cut)) others)
+  pub last_of : IsApplicationOf rules rule args last
+  pub last_valid : IsApplicable rules (graph_at_cut rules opening journal earlier) last
+  pub passes : Pass (graph_at_cut rules opening journal cut)
+      (plan_at rules (graph_at_cut rules opening journal earlier) last
+      ∷ map (plan_at rules (graph_at_cut rules opening journal cut)) others)
 
 -- From a cut on, the attempts that the run asks for, and then the one that it asks for after them,
 -- pass the numbers.
@@ -86,17 +86,17 @@ pub record IsFullInGroup (rules : Rules) (opening : Graph) (journal : List Entry
   pub cut : ℕ
   pub is_cut : IsCut asked journal cut
   pub tries : List Tried
-  pub lawful : AreLawfulTries rules (graph_at rules opening journal cut) tries
+  pub lawful : AreLawfulTries rules (graph_at_cut rules opening journal cut) tries
   pub rule : ℕ
   pub args : Args
   pub comes_to : ComesTo rules run
-      (made_along rules (graph_at rules opening journal cut) tries) (Asks rule args)
+      (made_along rules (graph_at_cut rules opening journal cut) tries) (Asks rule args)
   pub last : Application
-  pub last_of : IsOf rules rule args last
+  pub last_of : IsApplicationOf rules rule args last
   pub last_valid : IsApplicable rules
-      (after_tries rules (graph_at rules opening journal cut) tries) last
-  pub passes : Pass (after_tries rules (graph_at rules opening journal cut) tries)
-      (plan_at rules (after_tries rules (graph_at rules opening journal cut) tries) last ∷ [])
+      (after_tries rules (graph_at_cut rules opening journal cut) tries) last
+  pub passes : Pass (after_tries rules (graph_at_cut rules opening journal cut) tries)
+      (plan_at rules (after_tries rules (graph_at_cut rules opening journal cut) tries) last ∷ [])
 
 -- The journal has fewer free places than there may be sessions.
 abbrev pub IsLong : List Entry → Type 0

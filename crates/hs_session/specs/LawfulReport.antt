@@ -8,7 +8,7 @@ use Rattle.hs_types.specs.declared.request.Request.{Request}
 use Rattle.hs_types.specs.Journal.{IsLawful, after_journal}
 use Rattle.hs_types.specs.Rules.{Rules}
 use Rattle.hs_session.specs.declared.report.Report.{Report}
-use Rattle.hs_session.specs.Replies.{Answers}
+use Rattle.hs_session.specs.Replies.{RepliesTo}
 use Rattle.hs_session.specs.Requests.{IsAsked, all_asked}
 
 -- The journal is lawful from the opening graph and has entries of these requests alone; the graph
@@ -17,6 +17,6 @@ pub record IsLawfulReport (rules : Rules) (opening : Graph) (sessions : List (Li
     (report : Report) : Type 0 where
   pub lawful : IsLawful rules opening report.journal
   pub all_were_asked : All (IsAsked sessions) report.journal
-  pub answered : AllZip (Answers rules opening report.journal) (all_asked sessions) report.replies
+  pub answered : AllZip (RepliesTo rules opening report.journal) (all_asked sessions) report.replies
   pub graph_after : report.graph.graph ≡ after_journal rules opening report.journal
   pub same_model : arc_value report.graph.meta ≡ rules.meta

@@ -18,7 +18,7 @@ use Rattle.hs_session.specs.declared.report.Word.TheVariants as word
 use Rattle.hs_session.specs.Full.{IsFullAfter, IsFullInGroup, IsLong}
 use Rattle.hs_session.specs.Requests.{Asked, args_for, callee_named, is_of, params_at}
 use Rattle.hs_session.specs.Runs.{ComesTo, IsOver, Run, run_of}
-use Rattle.hs_session.specs.Standing.{Standing, made_in, no_outs, place_of, standing}
+use Rattle.hs_session.specs.Standing.{Standing, made_in, no_outs, entry_place, standing}
 
 -- The word on a call that came to this.
 abbrev pub word_for : Callee → Course → Word
@@ -46,7 +46,7 @@ IsSingle (One tried) = Unit {0}
 IsSingle (Group attempts done) = ⊥
 
 -- The request isn't grouped: its entries are the attempts of the run, one each.
-pub record IsRun (rules : Rules) (opening : Graph) (journal : List Entry) (asked : Asked)
+pub record IsUngrouped (rules : Rules) (opening : Graph) (journal : List Entry) (asked : Asked)
     (called : Callee) (run : Run) (entries : List Standing) (reply : Reply) : Type 0 where
   pub single : All (λ s. IsSingle s.entry.what) entries
   pub course : Course
@@ -89,7 +89,7 @@ pub record IsRefused (due : Word) (entries : List Standing) (reply : Reply) : Ty
 abbrev pub IsBegun : Rules → Graph → List Entry → Asked → Callee → Run → List Standing → Reply
     → Bool → Type 0
 IsBegun rules opening journal asked called run entries reply false =
-    IsRun rules opening journal asked called run entries reply
+    IsUngrouped rules opening journal asked called run entries reply
 IsBegun rules opening journal asked called run entries reply true =
     IsGroup rules called run entries reply
     ⊎ IsDropped rules opening journal asked run entries reply
@@ -111,10 +111,10 @@ IsCalled rules opening journal asked entries reply called =
     asked.request.group)
 
 -- Nothing has the name that is called, or a rule or a unit has.
-abbrev pub IsServed : Rules → Graph → List Entry → Asked → List Standing → Reply → Option Callee
+abbrev pub IsDue : Rules → Graph → List Entry → Asked → List Standing → Reply → Option Callee
     → Type 0
-IsServed rules opening journal asked entries reply None = IsRefused word.NoCall entries reply
-IsServed rules opening journal asked entries reply (Some called) =
+IsDue rules opening journal asked entries reply None = IsRefused word.NoCall entries reply
+IsDue rules opening journal asked entries reply (Some called) =
     IsCalled rules opening journal asked entries reply called
 
 -- The reply to a request that has these entries in the journal. It names their places.
@@ -122,14 +122,14 @@ pub record IsReply (rules : Rules) (opening : Graph) (journal : List Entry) (ask
     (entries : List Standing) (reply : Reply) : Type 0 where
   pub of_session : reply.session ≡ asked.session
   pub of_request : reply.request ≡ asked.number
-  pub at_places : reply.places ≡ map place_of entries
-  pub served : IsServed rules opening journal asked entries reply
+  pub at_places : reply.places ≡ map entry_place entries
+  pub served : IsDue rules opening journal asked entries reply
       (callee_named rules asked.request.call)
 
 -- The entries of a request, at their places.
 abbrev pub entries_of : Asked → List Standing → List Standing
 entries_of asked = filter (λ s. is_of asked s.entry)
 
-abbrev pub Answers : Rules → Graph → List Entry → Asked → Reply → Type 0
-Answers rules opening journal asked reply =
+abbrev pub RepliesTo : Rules → Graph → List Entry → Asked → Reply → Type 0
+RepliesTo rules opening journal asked reply =
     IsReply rules opening journal asked (entries_of asked (standing rules opening journal)) reply

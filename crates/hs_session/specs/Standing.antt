@@ -24,8 +24,8 @@ pub record Standing : Type 0 where
   pub graph : Graph
   pub entry : Entry
 
-abbrev pub place_of : Standing → ℕ
-place_of standing = length standing.before
+abbrev pub entry_place : Standing → ℕ
+entry_place standing = length standing.before
 
 -- Each of these entries at its place, after this journal and its graph.
 abbrev pub standing_after : Rules → List Entry → Graph → List Entry → List Standing

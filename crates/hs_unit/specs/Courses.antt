@@ -44,11 +44,11 @@ pub data Course : Type 0 where
 
 -- What follows a part of a run: the one where the part is done, the other where it has failed. Out
 -- of fuel, or asking, the whole is as its part.
-abbrev pub after : Course → (Left → Course) → (Left → Course) → Course
-after (Done left) if_done if_failed = if_done left
-after (Failed left) if_done if_failed = if_failed left
-after Fuel if_done if_failed = Fuel
-after (Asks rule args) if_done if_failed = Asks rule args
+abbrev pub followed_by : Course → (Left → Course) → (Left → Course) → Course
+followed_by (Done left) if_done if_failed = if_done left
+followed_by (Failed left) if_done if_failed = if_failed left
+followed_by Fuel if_done if_failed = Fuel
+followed_by (Asks rule args) if_done if_failed = Asks rule args
 
 -- The run takes one unit of fuel first.
 abbrev pub spend_of : ℕ → List Outcome → List Out → (Left → Course) → Course
@@ -106,8 +106,8 @@ has_handed own outs (Take parameter variable) = true
 abbrev pub can_begin : Args → List Out → List Bind → Bool
 can_begin own outs binds = list_all (has_handed own outs) binds
 
-abbrev pub args_of : Args → List Out → List Bind → Args
-args_of own outs binds = record {
+abbrev pub handed_args : Args → List Out → List Bind → Args
+handed_args own outs binds = record {
   list = sorted_by (λ given. given.name) (filter_map (handed_by own outs) binds);
 }
 
@@ -140,17 +140,17 @@ abbrev pub call_run : (Callee → Args → Left → Course) → Args → Call �
 call_run inner own call left =
     if can_begin own left.outs call.binds
     then returned call.binds left.outs
-    (inner call.callee (args_of own left.outs call.binds) (fresh left)) else Failed left
+    (inner call.callee (handed_args own left.outs call.binds) (fresh left)) else Failed left
 
 -- The calls in order, to the first that fails.
 abbrev pub sequential : (Call → Left → Course) → List Call → Left → Course
 sequential run [] left = Done left
-sequential run (call ∷ calls) left = after (run call left) (sequential run calls) Failed
+sequential run (call ∷ calls) left = followed_by (run call left) (sequential run calls) Failed
 
 -- The calls in order, to the first that is done.
 abbrev pub priority : (Call → Left → Course) → List Call → Left → Course
 priority run [] left = Failed left
-priority run (call ∷ calls) left = after (run call left) Done (priority run calls)
+priority run (call ∷ calls) left = followed_by (run call left) Done (priority run calls)
 
 -- The calls from this place on, and then those before it.
 abbrev pub rotated : ℕ → List Call → List Call
@@ -164,7 +164,7 @@ optional run (Some call) left = run call left
 abbrev pub turn : (Call → Left → Course) → Args → Call → (Left → Course) → (Left → Course) → Left
     → Course
 turn run own call again over left =
-    if can_begin own left.outs call.binds then spend (λ l. after (run call l) again over) left
+    if can_begin own left.outs call.binds then spend (λ l. followed_by (run call l) again over) left
     else over left
 
 -- Turns to the first that fails. There are no more of them than fuel.
@@ -186,13 +186,13 @@ abbrev pub natural : ℤ → ℕ
 natural (pos n) = n
 natural (negsuc n) = 0
 
-abbrev pub count_in : Option Value → ℕ
-count_in (Some (value.Int n)) = natural n
-count_in _ = 0
+abbrev pub natural_in : Option Value → ℕ
+natural_in (Some (value.Int n)) = natural n
+natural_in _ = 0
 
-abbrev pub count_of : Args → Count → ℕ
-count_of own (count.Literal n) = natural n
-count_of own (count.Param name) = count_in (value_argument own name)
+abbrev pub turns_of : Args → Count → ℕ
+turns_of own (count.Literal n) = natural n
+turns_of own (count.Param name) = natural_in (value_argument own name)
 
 -- The body of a unit with these arguments, in the request of this number, where its calls run so.
 abbrev pub body_run : ℕ → (Call → Left → Course) → Args → Body → Left → Course
@@ -201,9 +201,9 @@ body_run request run own (Priority calls) = priority run calls
 body_run request run own (Independent calls) =
     priority run (rotated (request % length calls) calls)
 body_run request run own (Conditional test next otherwise) =
-    λ left. after (run test left) (run next) (optional run otherwise)
+    λ left. followed_by (run test left) (run next) (optional run otherwise)
 body_run request run own (Loop call) = until_failure run own call
-body_run request run own (Iterated times_of call) = times (count_of own times_of) run own call
+body_run request run own (Iterated times_of call) = times (turns_of own times_of) run own call
 
 abbrev pub body_of : Option RuleUnit → Body
 body_of (Some unit) = unit.body

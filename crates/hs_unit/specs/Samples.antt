@@ -56,8 +56,8 @@ with_c = record { list = record { name = x; arg = arg.Object c } ∷ [] }
 abbrev pub n : List ℕ
 n = codes "n"
 
-abbrev pub number : ℤ → Args
-number k = record { list = record { name = n; arg = arg.Value (value.Int k) } ∷ [] }
+abbrev pub count_arg : ℤ → Args
+count_arg k = record { list = record { name = n; arg = arg.Value (value.Int k) } ∷ [] }
 
 -- The course of unit 0 among units with these bodies, in a session's request 4.
 abbrev pub units_with : List Body → List RuleUnit

@@ -49,7 +49,7 @@ pub fn turns_tried()
         (Missed ∷ []) ≡ Failed (fuel_left 7) }
     ensures counted_below_zero { first_of
         (Iterated (count.Literal (negsuc 0)) (rule_call 7) ∷ []) 9 [] ≡ Done (fuel_left 9) }
-    ensures counted_by_argument { first_with (sample.number (pos 1))
+    ensures counted_by_argument { first_with (sample.count_arg (pos 1))
         (Iterated (count.Param sample.n) (rule_call 7) ∷ []) 9 (gave_none ∷ [])
         ≡ Done (fuel_left 7) }
     ensures missed_turn { first_of (Loop giving ∷ []) 0 [] ≡ Done (fuel_left 0) }
