@@ -118,7 +118,7 @@ multi_fits m is rule clean part multi few =
     let before = kernel_of m rule in
     let kinds = multi_block part multi in
     let opens = block_opens m rule clean part kinds.0 few in
-    let slots = slots_in_form m is before (nodes_in m (declared_nodes rule.items) part) (reads_there m rule part before) (sets_in m (declared_nodes rule.items) (said_in m rule) part) (few_open m rule clean part few) in
+    let slots = slots_in_form m is before (nodes_in m (declared_nodes rule.items) part) (reads_there m rule part) (sets_in m (declared_nodes rule.items) (said_in m rule) part) (few_open m rule clean part few) in
     record {
       form = record {
         nodes_fit = nodes_fit m rule clean part;
