@@ -17,7 +17,8 @@ use Rattle.hs_types.specs.declared.request.Request.{Request}
 use Rattle.hs_types.specs.declared.rule.PatternEdge.{PatternEdge}
 use Rattle.hs_types.specs.declared.rule.PatternNode.{PatternNode}
 use Rattle.hs_types.specs.declared.rule.Rule.{Rule}
-use Rattle.hs_types.specs.declared.rule_set.RuleSet.{RuleSet}
+use Rattle.hs_types.specs.Rules.{Rules}
+use Rattle.hs_types.specs.declared.unit.Callee.TheVariants as callee
 use Rattle.hs_types.specs.declared.unit.Unit.{Unit as RuleUnit}
 use Rattle.hs_types.specs.Limits.{IsSmallRule}
 use Rattle.hs_types.specs.Pattern.{is_drop, is_left}
@@ -35,7 +36,7 @@ use Rattle.hs_expr.proofs.Lists.{length-filter-le}
 use Rattle.hs_types.specs.Arguments.{no_args}
 use Rattle.hs_types.specs.Additions.{OnlyAdds}
 use Rattle.hs_session.specs.declared.report.Report.{Report}
-use Rattle.hs_session.specs.Answers.{rule_named}
+use Rattle.hs_session.specs.Requests.{callee_named}
 use Rattle.hs_session.specs.Runnable.{IsRunnable}
 use Rattle.hs_session.specs.SerialReport.{IsSerialReport}
 use Rattle.henshin.specs.declared.status.Status.{Status}
@@ -128,7 +129,7 @@ one_request rules units found journal sessions request e some = elim (asked rule
 ]
 
 -- It calls the first rule of the set.
-pub calls_first : (rules : RuleSet) (sessions : List (List Request)) (request : Request) → IsOnly rules.rules sessions request → rule_named rules request.call ≡ Some 0
+pub calls_first : (rules : Rules) (sessions : List (List Request)) (request : Request) → IsOnly rules.rules sessions request → callee_named rules request.call ≡ Some (callee.Rule 0)
 calls_first rules sessions request only =
     let call : request.call ≡ only.rule.name = ap (λ (r : Request). r.call) only.is_plain in
     rw (only.is_only, call, same_text-itself only.rule.name) refl
@@ -136,6 +137,10 @@ calls_first rules sessions request only =
 -- It has no arguments.
 pub no_arguments : (rules : List Rule) (sessions : List (List Request)) (request : Request) → IsOnly rules sessions request → request.args ≡ no_args
 no_arguments rules sessions request only = ap (λ (r : Request). r.args) only.is_plain
+
+-- It isn't grouped.
+pub not_grouped : (rules : List Rule) (sessions : List (List Request)) (request : Request) → IsOnly rules sessions request → request.group ≡ false
+not_grouped rules sessions request only = ap (λ (r : Request). r.group) only.is_plain
 
 -- It can be run.
 pub can_run : (m : Metamodel) (g : Graph) (rules : List Rule) (units : List RuleUnit) (sessions : List (List Request)) (request : Request) → IsOnly rules sessions request → IsSound m g → IsRuleSet m rules units → IsSomeAnd (slice_get rules 0) (IsRunnable g)

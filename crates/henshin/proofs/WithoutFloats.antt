@@ -50,8 +50,3 @@ pub value_none : (v : Value) → has_float (value_data v) ≡ false
 value_none (value.Int n) = elim n as (λ z. has_float (value_data (value.Int z)) ≡ false) [ pos k ↦ refl | negsuc k ↦ refl ]
 value_none (value.Bool b) = refl
 value_none (value.Text t) = refl
-
-pub attrs_none : (m : Metamodel) (slots : List Slot) → has_float (attrs_data m slots) ≡ false
-attrs_none m slots =
-    object_none (map (λ slot. (feature_name m slot.attribute, value_data slot.value)) slots)
-    (map_none (λ slot. (feature_name m slot.attribute, value_data slot.value)) slots (λ slot. value_none slot.value))

@@ -8,22 +8,22 @@ use Rattle.hs_types.specs.declared.entry.Entry.{Entry}
 use Rattle.hs_types.specs.declared.entry.ExtensionNames.{ExtensionNames}
 use Rattle.hs_types.specs.declared.entry.Gone.{Gone}
 use Rattle.hs_types.specs.declared.entry.MatchNames.{MatchNames}
+use Rattle.hs_types.specs.declared.entry.NamedValue.{NamedValue}
 use Rattle.hs_types.specs.declared.entry.Outcome.{Outcome}
 use Rattle.hs_types.specs.declared.entry.Outcome.TheVariants as outcome
 use Rattle.hs_types.specs.declared.entry.Tried.{Tried}
 use Rattle.hs_types.specs.declared.entry.What.{What}
 use Rattle.hs_types.specs.declared.entry.What.TheVariants as what
-use Rattle.hs_types.specs.declared.meta.Metamodel.{Metamodel}
 use Rattle.hs_types.specs.declared.request.Arg.{Arg}
 use Rattle.hs_types.specs.declared.request.Arg.TheVariants as arg
 use Rattle.hs_types.specs.declared.request.Args.{Args}
-use Rattle.hs_types.specs.declared.rule_set.RuleSet.{RuleSet}
-use Rattle.hs_session.specs.declared.report.Out.{Out}
+use Rattle.hs_types.specs.declared.request.Outs.{Outs}
+use Rattle.hs_types.specs.Rules.{Rules}
 use Rattle.hs_session.specs.declared.report.Reply.{Reply}
 use Rattle.hs_session.specs.declared.report.Report.{Report}
 use Rattle.hs_session.specs.declared.report.Word.{Word}
 use Rattle.hs_session.specs.declared.report.Word.TheVariants as word
-use Rattle.hs_json_model.specs.Written.{Member, attrs_data, class_name, graph_data, line_of, lines_of, list_data, object_data, value_data, with_members}
+use Rattle.hs_json_model.specs.Written.{Member, graph_data, line_of, lines_of, list_data, object_data, value_data, with_members}
 
 abbrev pub number_data : ℕ → Data
 number_data n = number (unsigned n)
@@ -36,7 +36,7 @@ abbrev pub args_data : Args → Data
 args_data args = object_data (map (λ a. (a.name, arg_data a.arg)) args.list)
 
 -- The name of a rule.
-abbrev pub rule_name : RuleSet → ℕ → List ℕ
+abbrev pub rule_name : Rules → ℕ → List ℕ
 rule_name rules n = unwrap_or (option_map (λ rule. rule.name) (slice_get rules.rules n)) []
 
 abbrev pub extension_members : ExtensionNames → List Member
@@ -46,13 +46,16 @@ extension_members x =
 abbrev pub extension_data : ExtensionNames → Data
 extension_data x = object_data (extension_members x)
 
-abbrev pub gone_members : Metamodel → Gone → List Member
-gone_members m o =
-    (codes "attrs", attrs_data m o.slots) ∷ (codes "class", string (class_name m o.class))
+abbrev pub values_data : List NamedValue → Data
+values_data values = object_data (map (λ v. (v.attribute, value_data v.value)) values)
+
+abbrev pub gone_members : Gone → List Member
+gone_members o =
+    (codes "attrs", values_data o.values) ∷ (codes "class", string o.class)
     ∷ (codes "name", string o.name) ∷ []
 
-abbrev pub gone_data : Metamodel → Gone → Data
-gone_data m o = object_data (gone_members m o)
+abbrev pub gone_data : Gone → Data
+gone_data o = object_data (gone_members o)
 
 -- Where a rule was applied, and what it created, overwrote and deleted.
 abbrev pub match_members : MatchNames → List Member
@@ -61,25 +64,25 @@ match_members found =
     ∷ (codes "edges", list_data number_data found.edges)
     ∷ (codes "copies", list_data (list_data extension_data) found.copies) ∷ []
 
-abbrev pub change_members : Metamodel → List (List ℕ) → List Value → List Gone → List Member
-change_members m new old gone =
+abbrev pub change_members : List (List ℕ) → List Value → List Gone → List Member
+change_members new old gone =
     (codes "new", list_data string new) ∷ (codes "old", list_data value_data old)
-    ∷ (codes "gone", list_data (gone_data m) gone) ∷ []
+    ∷ (codes "gone", list_data gone_data gone) ∷ []
 
 -- How an attempt went.
-abbrev pub outcome_members : Metamodel → Outcome → List Member
-outcome_members m outcome.Missed = (codes "outcome", string (codes "missed")) ∷ []
-outcome_members m (outcome.Applied found new old gone) =
+abbrev pub outcome_members : Outcome → List Member
+outcome_members outcome.Missed = (codes "outcome", string (codes "missed")) ∷ []
+outcome_members (outcome.Applied found new old gone) =
     (codes "outcome", string (codes "applied")) ∷ match_members found
-    ++ change_members m new old gone
+    ++ change_members new old gone
 
-abbrev pub tried_members : RuleSet → Tried → List Member
+abbrev pub tried_members : Rules → Tried → List Member
 tried_members rules t =
     (codes "args", args_data t.args) ∷ (codes "attempt", number_data t.attempt)
     ∷ (codes "rule", string (rule_name rules t.rule))
-    ∷ outcome_members rules.meta.value t.outcome
+    ∷ outcome_members t.outcome
 
-abbrev pub what_members : RuleSet → What → List Member
+abbrev pub what_members : Rules → What → List Member
 what_members rules (what.One t) = tried_members rules t
 what_members rules (what.Group attempts done) =
     (codes "attempts", list_data (λ t. object_data (tried_members rules t)) attempts)
@@ -91,7 +94,7 @@ place_members place e =
     (codes "place", number_data place) ∷ (codes "request", number_data e.request)
     ∷ (codes "session", number_data e.session) ∷ []
 
-abbrev pub entry_data : RuleSet → ℕ → Entry → Data
+abbrev pub entry_data : Rules → ℕ → Entry → Data
 entry_data rules place e =
     object (with_members (with_members no_members (what_members rules e.what))
     (place_members place e))
@@ -99,10 +102,15 @@ entry_data rules place e =
 abbrev pub word_text : Word → List ℕ
 word_text word.Ok = codes "ok"
 word_text word.NoMatch = codes "nomatch"
+word_text word.Failed = codes "failed"
+word_text word.Fuel = codes "fuel"
+word_text word.Full = codes "full"
 word_text word.Memory = codes "memory"
+word_text word.NoCall = codes "nocall"
+word_text word.BadArgs = codes "badargs"
 
-abbrev pub outs_data : List Out → Data
-outs_data outs = object_data (map (λ out. (out.parameter, string out.object)) outs)
+abbrev pub outs_data : Outs → Data
+outs_data outs = object_data (map (λ out. (out.parameter, string out.object)) outs.list)
 
 abbrev pub reply_members : Reply → List Member
 reply_members r =
@@ -113,7 +121,7 @@ reply_members r =
 abbrev pub reply_data : Reply → Data
 reply_data r = object_data (reply_members r)
 
-abbrev pub report_text : RuleSet → Report → List ℕ
+abbrev pub report_text : Rules → Report → List ℕ
 report_text rules r =
     lines_of (map (λ e. entry_data rules e.0 e.1) (enumerate_from 0 r.journal))
     ++ lines_of (map reply_data r.replies)

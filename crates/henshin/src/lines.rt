@@ -4,19 +4,18 @@ ghost use Rattle.std.specs.Prelude.{◌≡◌, ℕ, List, [], ◌++◌, ◌∷�
 ghost use Rattle.serde_json.specs.Data.{Data, string, no_members};
 ghost use Rattle.serde_json.specs.View.{view, members_view};
 ghost use Rattle.std.specs.List.{enumerate_from};
-ghost use Rattle.hs_json_model.specs.Written.{with_members, object_data, list_data, value_data, class_name, feature_name, attrs_data, graph_data};
-ghost use Rattle.henshin.specs.ReportText.{number_data, arg_data, args_data, rule_name, extension_data, gone_data, match_members, change_members, outcome_members, tried_members, what_members, entry_data, word_text, outs_data, reply_data, report_text};
+ghost use Rattle.hs_json_model.specs.Written.{with_members, object_data, list_data, value_data, graph_data};
+ghost use Rattle.henshin.specs.ReportText.{number_data, arg_data, args_data, rule_name, extension_data, gone_data, values_data, match_members, change_members, outcome_members, tried_members, what_members, entry_data, word_text, outs_data, reply_data, report_text};
 ghost use Rattle.hs_json_model.specs.Written.{lines_of};
 
 use hs_expr::{List, Text, Value as Datum};
 use hs_json_model::{
-    Members, add_line, attrs_value, class_name, datum_value, list_value, text_value, texts_value,
-    with_graph,
+    Members, add_line, datum_value, list_value, text_value, texts_value, with_graph,
 };
-use hs_session::{Out, Reply, Report, Word};
+use hs_session::{Reply, Report, Word};
 use hs_types::{
-    Arg, Args, Entry, ExtensionNames, Gone, MatchNames, Meta, NamedArg, Outcome, RuleSet, Tried,
-    What,
+    Arg, Args, Entry, ExtensionNames, Gone, MatchNames, NamedArg, NamedValue, Outcome, Outs,
+    RuleSet, Tried, What,
 };
 use serde_json::{Value, json, put};
 use std::alloc::{AllocError, Global};
@@ -155,18 +154,13 @@ fn tried_members(alloc: Global, rules: &RuleSet, tried: &Tried) -> Result<Member
     put(&mut members, alloc, "attempt", Value::from(tried.attempt))?;
     let rule = Value::try_from_str(alloc, rule_name(rules, tried.rule))?;
     put(&mut members, alloc, "rule", rule)?;
-    add_outcome(alloc, &mut members, &rules.meta, &tried.outcome)?;
+    add_outcome(alloc, &mut members, &tried.outcome)?;
     Ok(members)
 }
 
-fn add_outcome(
-    alloc: Global,
-    members: &mut Members,
-    meta: &Meta,
-    outcome: &Outcome,
-) -> Result<(), AllocError>
+fn add_outcome(alloc: Global, members: &mut Members, outcome: &Outcome) -> Result<(), AllocError>
     ensures { OnOk result (members_view members.new.entries
-        ≡ with_members (members_view members.old.entries) (outcome_members meta.now outcome.now)) }
+        ≡ with_members (members_view members.old.entries) (outcome_members outcome.now)) }
 {
     match outcome {
         Outcome::Missed => {
@@ -182,7 +176,7 @@ fn add_outcome(
             let applied = Value::try_from_str(alloc, "applied")?;
             put(members, alloc, "outcome", applied)?;
             add_match(alloc, members, found)?;
-            add_changes(alloc, members, meta, new, old, gone)
+            add_changes(alloc, members, new, old, gone)
         }
     }
 }
@@ -206,17 +200,16 @@ fn add_match(alloc: Global, members: &mut Members, found: &MatchNames) -> Result
 fn add_changes(
     alloc: Global,
     members: &mut Members,
-    meta: &Meta,
     new: &List<Text>,
     old: &List<Datum>,
     gone: &List<Gone>,
 ) -> Result<(), AllocError>
     ensures { OnOk result (members_view members.new.entries ≡ with_members
-        (members_view members.old.entries) (change_members meta.now new.now old.now gone.now)) }
+        (members_view members.old.entries) (change_members new.now old.now gone.now)) }
 {
     put(members, alloc, "new", texts_value(alloc, new)?)?;
     put(members, alloc, "old", old_value(alloc, old)?)?;
-    put(members, alloc, "gone", gone_value(alloc, meta, gone)?)
+    put(members, alloc, "gone", gone_value(alloc, gone)?)
 }
 
 fn copies_value(alloc: Global, copies: &List<List<ExtensionNames>>) -> Result<Value, AllocError>
@@ -263,25 +256,36 @@ fn old_value(alloc: Global, old: &List<Datum>) -> Result<Value, AllocError>
     )
 }
 
-fn gone_value(alloc: Global, meta: &Meta, gone: &List<Gone>) -> Result<Value, AllocError>
-    ensures { IfOk result (λ v. view v ≡ list_data (gone_data meta.now) gone.now) }
+fn gone_value(alloc: Global, gone: &List<Gone>) -> Result<Value, AllocError>
+    ensures { IfOk result (λ v. view v ≡ list_data gone_data gone.now) }
 {
     list_value(
         alloc,
         gone,
         &|object: &Gone| -> Result<Value, AllocError>
-            ensures { IfOk result (λ v. view v ≡ gone_data meta.entry.now object.now) }
-        { gone_object_value(alloc, meta, object) },
+            ensures { IfOk result (λ v. view v ≡ gone_data object.now) }
+        { gone_object_value(alloc, object) },
     )
 }
 
-fn gone_object_value(alloc: Global, meta: &Meta, object: &Gone) -> Result<Value, AllocError>
-    ensures { IfOk result (λ v. view v ≡ gone_data meta.now object.now) }
+fn gone_object_value(alloc: Global, object: &Gone) -> Result<Value, AllocError>
+    ensures { IfOk result (λ v. view v ≡ gone_data object.now) }
 {
-    let attrs = attrs_value(alloc, meta, &object.slots)?;
-    let class = Value::try_from_str(alloc, class_name(meta, object.class))?;
+    let attrs = values_value(alloc, object.values.as_slice())?;
+    let class = text_value(alloc, &object.class)?;
     let name = text_value(alloc, &object.name)?;
     json!(in alloc; {"attrs": attrs, "class": class, "name": name})
+}
+
+fn values_value(alloc: Global, values: &[NamedValue]) -> Result<Value, AllocError>
+    ensures { IfOk result (λ v. view v ≡ values_data values.now) }
+{
+    let mut members = Members::new(alloc);
+    for named in values {
+        let value = datum_value(alloc, &named.value)?;
+        put(&mut members, alloc, named.attribute.as_str(), value)?;
+    }
+    Ok(Value::Object(members))
 }
 
 fn rule_name(rules: &RuleSet, rule: u16) -> &str
@@ -310,11 +314,11 @@ fn reply_value(alloc: Global, reply: &Reply) -> Result<Value, AllocError>
     })
 }
 
-fn outs_value(alloc: Global, outs: &List<Out>) -> Result<Value, AllocError>
+fn outs_value(alloc: Global, outs: &Outs) -> Result<Value, AllocError>
     ensures { IfOk result (λ v. view v ≡ outs_data outs.now) }
 {
     let mut members = Members::new(alloc);
-    for out in outs.as_slice() {
+    for out in outs.list.as_slice() {
         let object = text_value(alloc, &out.object)?;
         put(&mut members, alloc, out.parameter.as_str(), object)?;
     }
@@ -327,6 +331,11 @@ fn word_of(word: Word) -> &'static str
     match word {
         Word::Ok => "ok",
         Word::NoMatch => "nomatch",
+        Word::Failed => "failed",
+        Word::Fuel => "fuel",
+        Word::Full => "full",
         Word::Memory => "memory",
+        Word::NoCall => "nocall",
+        Word::BadArgs => "badargs",
     }
 }

@@ -4,7 +4,6 @@ ghost use Rattle.std.specs.Prelude.{ℕ, ◌≡◌, IfOk, List, Option, Some, sl
 ghost use Rattle.std.specs.Arc.{arc_value};
 ghost use Rattle.std.specs.Option.{option_and_then, option_copied};
 ghost use Rattle.serde_json.specs.Data.{Data};
-ghost use Rattle.hs_types.specs.Journal.{meta_of};
 ghost use Rattle.hs_json.specs.Reading.{Contents};
 ghost use Rattle.hs_json_model.specs.Sound.{IsSound};
 ghost use Rattle.hs_input.specs.Input.{IsInput};
@@ -20,7 +19,7 @@ use hs_input::{Input, Refusal, read_input};
 use hs_json::problems_text;
 use hs_session::{Report, run_nothing, run_serial};
 use hs_text::print;
-use hs_types::{ListGraph, Request, RuleSet, rule_sets_are_formed};
+use hs_types::{ListGraph, Request, RuleSet};
 use std::alloc::{AllocError, Global};
 
 /// What a command gives for a bundle.
@@ -73,7 +72,7 @@ fn checked(alloc: Global, input: &Input) -> Result<Answer, AllocError>
 /// The report of what is asked for.
 fn applied(alloc: Global, input: Input) -> Result<Answer, AllocError>
     requires sound { IsSound (arc_value input.graph.meta) input.graph.graph }
-    requires same_model { arc_value input.graph.meta ≡ meta_of input.rules }
+    requires same_model { arc_value input.graph.meta ≡ input.rules.meta }
     requires asked { (found : Option Data) × (journal : Option Data)
         × (sessions_asked input.rules.rules input.rules.units found journal ≡ Some input.sessions) }
     ensures { (bytes : List ℕ) (held : Contents) → IsInput bytes held input
@@ -101,12 +100,12 @@ fn ran(
     sessions: &[List<Request>],
 ) -> Result<Report, AllocError>
     requires sound { IsSound (arc_value graph.meta) graph.graph }
-    requires same_model { arc_value graph.meta ≡ meta_of rules.now }
+    requires same_model { arc_value graph.meta ≡ rules.now.meta }
     requires asked { (found : Option Data) × (journal : Option Data)
         × (sessions_asked rules.now.rules rules.now.units found journal ≡ Some sessions.now) }
     ensures { IfOk result (IsSerialReport rules.now graph.graph sessions.now) }
 {
-    rule_sets_are_formed();
+    rules.are_formed();
     match first_request(sessions) {
         Some(request) => run_serial(alloc, graph, rules, 0, request),
         None => Ok(run_nothing(alloc, graph)),

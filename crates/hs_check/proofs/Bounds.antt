@@ -126,5 +126,5 @@ few_open m rule clean part few_here =
 pub block_opens : (m : Metamodel) (rule : Rule) → Clean m rule → (part : BlockId) → is_kernel part ≡ false → has_few (declared_nodes rule.items) (statements rule.items) part ≡ true → Opens m (declared_nodes rule.items) part (nodes_in m (declared_nodes rule.items) home.Kernel)
 block_opens m rule clean part block few_here =
     let few = few_open m rule clean part few_here in
-    opens_block m (declared_nodes rule.items) clean.nodes_new (all_classed m rule clean) (are_numbered (written_nodes rule.items)) part block
+    opens_block m (declared_nodes rule.items) (all_classed m rule clean) (are_numbered (written_nodes rule.items)) part block
     (subst (λ n. n ≤ 65536) (sym (length-append (nodes_in m (declared_nodes rule.items) home.Kernel) (nodes_in m (declared_nodes rule.items) part))) few)

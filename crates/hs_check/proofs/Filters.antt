@@ -1,5 +1,5 @@
 -- Items of lists: what is picked out of a list, what is made of each, and what is found by a test.
-use Rattle.std.proofs.Common.{ℕ, zero, suc, ◌+◌, ◌<◌, ◌≤◌, ◌≡◌, ◌++◌, List, [], ◌∷◌, Bool, true, false, not, cond, map, length, nat_le, take, slice_get, nat_lt, ◌||◌, if◌then◌else◌, Option, Some, None, is_some, refl, ap, sym, ◌∙◌, inl, inr, arith, add-zero}
+use Rattle.std.proofs.Common.{ℕ, zero, suc, ◌+◌, ◌<◌, ◌≤◌, ◌≡◌, ◌++◌, List, [], ◌∷◌, Bool, true, false, not, cond, map, length, nat_le, take, slice_get, nat_lt, ◌||◌, if◌then◌else◌, Option, Some, None, is_some, refl, ap, sym, subst, ◌∙◌, inl, inr, arith, add-zero}
 use Rattle.std.proofs.lemmas.Bool.{and_parts, false≢true, le-leb, ltb-true}
 use Rattle.std.proofs.lemmas.List.{length-map, length-take-le}
 use Rattle.std.proofs.lemmas.List.Folds.{find_at}
@@ -86,6 +86,14 @@ EachPair-filter_map {A} {B} R f (x ∷ xs) h = go (f x) refl (EachPair-filter_ma
     go None is rest = rest
     go (Some a) is rest = (All-filter_map (R a) f xs (λ k y b at made. h 0 (suc k) x y a b (omega arith) refl at is made), rest)
 
+-- Where the items are made of others first.
+pub filter_map-map : {A B C : Type 0} (f : B → Option C) (g : A → B) (xs : List A) → filter_map f (map g xs) ≡ filter_map (λ x. f (g x)) xs
+filter_map-map f g [] = refl
+filter_map-map f g (x ∷ xs) = ap (cons_option (f (g x))) (filter_map-map f g xs)
+
+pub All-made : {A B C : Type 0} (P : C → Type 0) (f : B → Option C) (g : A → B) (xs : List A) → ((k : ℕ) (x : A) (y : C) → slice_get xs k ≡ Some x → f (g x) ≡ Some y → P y) → All P (filter_map f (map g xs))
+All-made P f g xs h = subst (All P) (sym (filter_map-map f g xs)) (All-filter_map P (λ x. f (g x)) xs h)
+
 -- No more is made than items pass a test that each of which something is made passes.
 pub fewer_made : {A B : Type 0} (p : A → Bool) (f : A → Option B) (xs : List A) → ((k : ℕ) (x : A) (y : B) → slice_get xs k ≡ Some x → f x ≡ Some y → p x ≡ true) → length (filter_map f xs) ≤ length (filter p xs)
 fewer_made p f [] h = omega arith
@@ -165,15 +173,6 @@ find-filter_map {A} {B} p q f (z ∷ xs) x y agree e made = go (p z) refl e (fin
         let same : f z ≡ Some y = ap f (same_Some z x e) ∙ made in
         ap (λ (o : Option B). find q (cons_option o (filter_map f xs))) same ∙ chosen (q y) (agree z y same ∙ t) (find q (filter_map f xs))
     go false t e rest = later (f z) refl t (rest e made)
-
--- Where the front has none, the first that passes follows it.
-pub found_behind : {A : Type 0} (p : A → Bool) (xs ys : List A) → find p xs ≡ None → length xs ≤ position_or_len p (xs ++ ys)
-found_behind p [] ys e = omega arith
-found_behind {A} p (x ∷ xs) ys e = go (p x) e (found_behind p xs ys)
-  where
-    go : (b : Bool) → cond b (Some x) (find p xs) ≡ None → (find p xs ≡ None → length xs ≤ position_or_len p (xs ++ ys)) → suc (length xs) ≤ cond (not b) (1 + position_or_len p (xs ++ ys)) 0
-    go true e rest = absurd (none-some x (sym e))
-    go false e rest = let low = rest e in omega arith
 
 -- What is found of the items is found of what is made of them.
 pub any_made : {A B : Type 0} (p : A → Bool) (q : B → Bool) (f : A → B) (xs : List A) → ((x : A) → q (f x) ≡ p x) → is_some (find p xs) ≡ true → list_any q (map f xs) ≡ true

@@ -1,7 +1,7 @@
 -- What is so of a rule in which no fault is found.
 use Rattle.std.proofs.Common.{ℕ, zero, suc, ◌≡◌, ◌++◌, List, [], ◌∷◌, Bool, true, false, not, ◌&&◌, is_some, length, nat_le, take, Option, Some, None, Result, Ok, Err, slice_get, refl, ap, sym, ◌∙◌}
 use Rattle.std.proofs.lemmas.Bool.{and_parts, not-false}
-use Rattle.std.proofs.lemmas.List.{append-nil, append_assoc}
+use Rattle.std.proofs.lemmas.List.{append-nil, append_assoc, append-nil, append_assoc}
 use Rattle.std.proofs.lemmas.Option.{none-some, same_Some}
 use Rattle.std.specs.List.{flat_map}
 use Rattle.hs_expr.specs.declared.Kind.{Kind}
@@ -10,9 +10,11 @@ use Rattle.hs_expr.specs.declared.Expr.{Expr}
 use Rattle.hs_expr.specs.declared.Name.{Name}
 use Rattle.hs_expr.specs.declared.NameExpr.{NameExpr}
 use Rattle.hs_expr.specs.declared.Span.{Span}
-use Rattle.hs_expr.specs.Steps.{◌>>=◌, demand, needed}
+use Rattle.hs_expr.specs.Steps.{◌>>=◌, demand, fault_as, needed}
 use Rattle.hs_expr.specs.Verdict.{fault_if}
 use Rattle.hs_eval.specs.Checking.{Names, check_tree}
+use Rattle.hs_eval.specs.Results.{checked_of, ok_map}
+use Rattle.hs_eval.specs.declared.checked.Checked.{Checked}
 use Rattle.hs_eval.specs.declared.fault.ExprFault.{ExprFault}
 use Rattle.hs_text.specs.declared.syntax.Definition.{Definition}
 use Rattle.hs_text.specs.declared.syntax.Definition.TheVariants as definition
@@ -22,6 +24,7 @@ use Rattle.hs_text.specs.declared.syntax.Rule.{Rule}
 use Rattle.hs_expr.specs.NameExprs.{expr_tree}
 use Rattle.hs_types.specs.declared.meta.Metamodel.{Metamodel}
 use Rattle.hs_faults.specs.declared.data_parameters.DataParam.{DataParam}
+use Rattle.hs_faults.specs.declared.fault.RuleFault.{RuleFault}
 use Rattle.hs_faults.specs.declared.nodes.DeclaredNode.{DeclaredNode}
 use Rattle.hs_faults.specs.declared.nodes.BlockId.{BlockId}
 use Rattle.hs_faults.specs.Faults.{rule_faults_after, faults_in_rule, faults_of_rule, faults_of_rules}
@@ -32,7 +35,7 @@ use Rattle.hs_faults.specs.Nodes.{declared_nodes}
 use Rattle.hs_faults.specs.Numbers.{data_params}
 use Rattle.hs_faults.specs.ParamNodes.{fit_faults, param_node_faults}
 use Rattle.hs_faults.specs.Statements.{Statement, statements}
-use Rattle.hs_faults.specs.StatementFaults.{Slot, attribute_of, edge_checked, in_rule, is_deleted, is_of_class, is_set_before, kind_checked, may_join, rule_scope, visible_node, same_block, same_kind, set_checked, slot_set_by, statement_checked, target_from, statement_faults, first_fault, where_checked}
+use Rattle.hs_faults.specs.StatementFaults.{Slot, attribute_of, edge_checked, expr_checked, is_deleted, is_of_class, is_set_before, may_join, rule_fault, rule_scope, visible_node, same_block, same_kind, set_checked, slot_set_by, statement_checked, target_from, statement_faults, first_fault, where_checked}
 use Rattle.hs_faults.specs.UnitFaults.{rules_of}
 use Rattle.hs_expr.proofs.Clean.{clean_at, empty_parts, no_test, some-not_none}
 
@@ -86,18 +89,10 @@ third_at : (m : Metamodel) (params : List DataParam) (nodes : List DeclaredNode)
 third_at m params nodes before [] e k s at = absurd (none-some s at)
 third_at m params nodes before (t ∷ said) e zero s at =
     let none = none_told (statement_checked m params nodes before t) (empty_parts (first_fault (statement_checked m params nodes before t)) _ e).0 in
-    ap (λ (b : List Slot). statement_checked m params nodes b s) (nothing_behind before) ∙ ap (statement_checked m params nodes before) (sym (same_Some t s at)) ∙ none.1
-  where
-    nothing_behind : (xs : List Slot) → xs ++ [] ≡ xs
-    nothing_behind [] = refl
-    nothing_behind (x ∷ xs) = ap (λ ys. x ∷ ys) (nothing_behind xs)
+    ap (λ (b : List Slot). statement_checked m params nodes b s) (append-nil before) ∙ ap (statement_checked m params nodes before) (sym (same_Some t s at)) ∙ none.1
 third_at m params nodes before (t ∷ said) e (suc k) s at =
-    ap (λ (b : List Slot). statement_checked m params nodes b s) (sym (grouped before (slot_set_by t) (flat_map slot_set_by (take k said))))
+    ap (λ (b : List Slot). statement_checked m params nodes b s) (sym (append_assoc before (slot_set_by t) (flat_map slot_set_by (take k said))))
     ∙ third_at m params nodes (before ++ slot_set_by t) said (empty_parts (first_fault (statement_checked m params nodes before t)) (statement_faults m params nodes (before ++ slot_set_by t) said) e).1 k s at
-  where
-    grouped : (a b c : List Slot) → a ++ b ++ c ≡ a ++ (b ++ c)
-    grouped [] b c = refl
-    grouped (x ∷ a) b c = ap (λ ys. x ∷ ys) (grouped a b c)
 
 -- All that holds of a rule without faults.
 pub record Clean (m : Metamodel) (rule : Rule) : Type 0 where
@@ -196,12 +191,16 @@ kinds_same sort.Text sort.Bool e = cc
 abbrev pub IsOfKind : Names → NameExpr → Kind → Type 0
 IsOfKind names expr k = (e : Expr) × (check_tree names (expr_tree expr) ≡ Ok (e, k))
 
-of_kind : (names : Names) (expr : NameExpr) (k : Kind) → kind_checked names expr ≡ Ok k → IsOfKind names expr k
-of_kind names expr k e = go (check_tree names (expr_tree expr)) refl e
+abbrev kind_or_bool : Result Checked RuleFault → Kind
+kind_or_bool (Ok found) = found.kind
+kind_or_bool (Err f) = sort.Bool
+
+of_kind : (names : Names) (expr : NameExpr) (k : Kind) (found : Checked) → expr_checked names expr ≡ Ok found → found.kind ≡ k → IsOfKind names expr k
+of_kind names expr k found e same = go (check_tree names (expr_tree expr)) refl e
   where
-    go : (c : Result (Expr × Kind) ExprFault) → check_tree names (expr_tree expr) ≡ c → in_rule (λ (x : Expr × Kind). x.1) c ≡ Ok k → IsOfKind names expr k
+    go : (c : Result (Expr × Kind) ExprFault) → check_tree names (expr_tree expr) ≡ c → fault_as rule_fault (ok_map checked_of c) ≡ Ok found → IsOfKind names expr k
     go (Err f) at e = cc
-    go (Ok (a, found)) at e = let same : found ≡ k = cc in (a, at ∙ ap (λ (n : Kind). Ok (a, n)) same)
+    go (Ok (a, n)) at e = (a, at ∙ ap (λ (n : Kind). Ok (a, n)) (ap kind_or_bool e ∙ same))
 
 -- The node that a set writes to, and its attribute, whose kind the value has.
 pub record SoundSet (m : Metamodel) (params : List DataParam) (nodes : List DeclaredNode) (before : List Slot) (home : BlockId) (node attribute : Name) (value : NameExpr) : Type 0 where
@@ -222,8 +221,8 @@ sound_set m params nodes before home node attribute value e =
     let own = demand-ok (same_block home written.0.block) _ _ tt stays.1 in
     let wanted = needed-ok (attribute_of m written.0 attribute.text) _ _ tt own.1 in
     let new = demand-ok (not (is_set_before before node.text attribute.text)) _ _ tt wanted.2 in
-    let found = steps-ok (kind_checked (rule_scope m params nodes home) value) _ tt new.1 in
-    let same = kinds_same found.0 wanted.0.1 (demanded (same_kind found.0 wanted.0.1) _ found.2) in
+    let found = steps-ok (expr_checked (rule_scope m params nodes home) value) _ tt new.1 in
+    let same = kinds_same found.0.kind wanted.0.1 (demanded (same_kind found.0.kind wanted.0.1) _ found.2) in
     record {
       written = written.0;
       wanted = wanted.0;
@@ -232,7 +231,7 @@ sound_set m params nodes before home node attribute value e =
       own = own.0;
       named = wanted.1;
       new = go (is_set_before before node.text attribute.text) new.0;
-      of_kind = of_kind (rule_scope m params nodes home) value wanted.0.1 (found.1 ∙ ap (λ (k : Kind). Ok k) same);
+      of_kind = of_kind (rule_scope m params nodes home) value wanted.0.1 found.0 found.1 same;
     }
   where
     go : (b : Bool) → not b ≡ true → b ≡ false
@@ -242,6 +241,6 @@ sound_set m params nodes before home node attribute value e =
 pub sound_where : (m : Metamodel) (params : List DataParam) (nodes : List DeclaredNode) (home : BlockId) (word : Span) (test : NameExpr) → where_checked m params nodes home word test ≡ Ok tt → IsOfKind (rule_scope m params nodes home) test sort.Bool
 unfolding where_checked
 sound_where m params nodes home word test e =
-    let found = steps-ok (kind_checked (rule_scope m params nodes home) test) _ tt e in
-    let same = kinds_same found.0 sort.Bool (demanded (same_kind found.0 sort.Bool) _ found.2) in
-    of_kind (rule_scope m params nodes home) test sort.Bool (found.1 ∙ ap (λ (k : Kind). Ok k) same)
+    let found = steps-ok (expr_checked (rule_scope m params nodes home) test) _ tt e in
+    let same = kinds_same found.0.kind sort.Bool (demanded (same_kind found.0.kind sort.Bool) _ found.2) in
+    of_kind (rule_scope m params nodes home) test sort.Bool found.0 found.1 same

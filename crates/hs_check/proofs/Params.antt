@@ -33,7 +33,8 @@ use Rattle.hs_faults.specs.StatementFaults.{same_block}
 use Rattle.hs_faults.specs.Marks.{mark_meant}
 use Rattle.hs_check.specs.Elements.{node_meant, nodes_in}
 use Rattle.hs_check.specs.Parameters.{class_meant, direction_meant, kind_meant, param_meant, params_meant}
-use Rattle.hs_check.specs.Rules.{forbid_at, multi_at, multi_meant, part_meant, require_at, rule_meant, rule_contents}
+use Rattle.hs_check.specs.Rules.{forbid_at, multi_at, multi_meant, part_meant, require_at, rule_meant}
+use Rattle.hs_faults.specs.Contents.{rule_contents}
 use Rattle.hs_check.proofs.Uniqueness.{HaveOwn, names_apart, one_place}
 use Rattle.hs_check.proofs.BlockIds.{Unlike, all_homes, homes_unlike}
 use Rattle.hs_check.proofs.Visibility.{called, found_in, homes_same, kernel_home, node_in, node_made, nodes_in-picked}
@@ -135,12 +136,12 @@ nodes_by_parts m rule =
     let forbids = each forbid_at rule.items in
     let requires = each require_at rule.items in
     let multis = each multi_at rule.items in
-    ap (λ (f : List PatternNode). kernel ++ f ++ flat_map (λ (part : Part). part.nodes) (map (part_meant m (rule_contents rule) kernel) requires) ++ flat_map (λ (multi : Multi). multi.shape.nodes) (map (multi_meant m (rule_contents rule) kernel) multis))
-    (flat_mapped (λ (part : Part). part.nodes) (part_meant m (rule_contents rule) kernel) forbids)
-    ∙ ap (λ (f : List PatternNode). kernel ++ flat_map nodes forbids ++ f ++ flat_map (λ (multi : Multi). multi.shape.nodes) (map (multi_meant m (rule_contents rule) kernel) multis))
-    (flat_mapped (λ (part : Part). part.nodes) (part_meant m (rule_contents rule) kernel) requires)
+    ap (λ (f : List PatternNode). kernel ++ f ++ flat_map (λ (part : Part). part.nodes) (map (part_meant m (rule_contents m rule)) requires) ++ flat_map (λ (multi : Multi). multi.shape.nodes) (map (multi_meant m (rule_contents m rule) kernel) multis))
+    (flat_mapped (λ (part : Part). part.nodes) (part_meant m (rule_contents m rule)) forbids)
+    ∙ ap (λ (f : List PatternNode). kernel ++ flat_map nodes forbids ++ f ++ flat_map (λ (multi : Multi). multi.shape.nodes) (map (multi_meant m (rule_contents m rule) kernel) multis))
+    (flat_mapped (λ (part : Part). part.nodes) (part_meant m (rule_contents m rule)) requires)
     ∙ ap (λ (f : List PatternNode). kernel ++ flat_map nodes forbids ++ flat_map nodes requires ++ f)
-    (flat_mapped (λ (multi : Multi). multi.shape.nodes) (multi_meant m (rule_contents rule) kernel) multis)
+    (flat_mapped (λ (multi : Multi). multi.shape.nodes) (multi_meant m (rule_contents m rule) kernel) multis)
     ∙ joined nodes kernel forbids requires multis
   where
     joined : (nodes : BlockId → List PatternNode) (kernel : List PatternNode) (forbids requires multis : List BlockId) → kernel ++ flat_map nodes forbids ++ flat_map nodes requires ++ flat_map nodes multis ≡ kernel ++ flat_map nodes ((forbids ++ requires) ++ multis)

@@ -1,5 +1,5 @@
 -- What a part of a rule means fits: its nodes, edges, conditions and sets.
-use Rattle.std.proofs.Common.{ℕ, ◌≡◌, ◌&&◌, ◌||◌, ◌++◌, List, Bool, true, false, not, take, slice_get, Option, Some, Ok, refl, ap, sym, ◌∙◌, subst}
+use Rattle.std.proofs.Common.{ℕ, ◌≡◌, ◌&&◌, ◌||◌, ◌++◌, List, map, Bool, true, false, not, take, slice_get, Option, Some, Ok, refl, ap, sym, ◌∙◌, subst}
 use Rattle.std.proofs.lemmas.Bool.{and_parts, false≢true}
 use Rattle.std.specs.List.{All, flat_map}
 use Rattle.std.specs.Option.{option_map_or}
@@ -17,6 +17,8 @@ use Rattle.hs_types.specs.Pattern.{is_make}
 use Rattle.hs_types.specs.RuleForm.{EdgeFits, NodeFits}
 use Rattle.hs_faults.specs.declared.nodes.DeclaredNode.{DeclaredNode}
 use Rattle.hs_faults.specs.declared.nodes.BlockId.{BlockId}
+use Rattle.hs_faults.specs.declared.statements.CheckedStatement.{CheckedStatement}
+use Rattle.hs_faults.specs.Contents.{checked_statement}
 use Rattle.hs_faults.specs.Declarations.{is_created}
 use Rattle.hs_faults.specs.Names.{has_concrete, is_concrete}
 use Rattle.hs_faults.specs.Nodes.{declared_nodes}
@@ -32,13 +34,20 @@ use Rattle.hs_check.proofs.ExprKinds.{IsKnown}
 use Rattle.hs_check.proofs.Edges.{edge_fits, end_test}
 use Rattle.hs_check.proofs.StatementForms.{edge_made, expr_fits, where_made}
 use Rattle.hs_check.proofs.Visibility.{Opens, node_in, node_made, nodes_in-picked}
-use Rattle.hs_check.proofs.Filters.{All-filter_map}
+use Rattle.hs_check.proofs.Filters.{All-filter_map, All-made}
 use Rattle.hs_check.proofs.Scopes.{agree, scope_with}
 use Rattle.hs_check.proofs.NoFaults.{Clean, sound_where}
 
 -- The nodes that a part of a rule may name, after those before its own.
 abbrev pub visible_nodes : Metamodel → Rule → BlockId → List PatternNode → List PatternNode
 visible_nodes m rule part before = before ++ nodes_in m (declared_nodes rule.items) part
+
+-- The statements of a rule with their expressions.
+abbrev pub checked_in : Metamodel → Rule → Statement → CheckedStatement
+checked_in m rule = checked_statement m (data_params rule.params) (declared_nodes rule.items)
+
+abbrev pub said_in : Metamodel → Rule → List CheckedStatement
+said_in m rule = map (checked_in m rule) (statements rule.items)
 
 -- What the names of its expressions denote, and the kinds of what they read.
 abbrev pub names_in : Metamodel → Rule → BlockId → Names
@@ -80,26 +89,26 @@ nodes_fit m rule clean part =
 -- ---- edges
 
 module _ (m : Metamodel) (rule : Rule) (clean : Clean m rule) (part : BlockId) (before : List PatternNode) (opens : Opens m (declared_nodes rule.items) part before) where
-  pub edges_fit : All (λ edge. EdgeFits m (end_test part edge.mark) (visible_nodes m rule part before) edge) (edges_of_part m (visible_nodes m rule part before) (statements rule.items) part)
-  edges_fit = All-filter_map (λ (edge : PatternEdge). EdgeFits m (end_test part edge.mark) (visible_nodes m rule part before) edge) (edge_in m (visible_nodes m rule part before) part) (statements rule.items) (λ k s edge at made.
-      let is = edge_made m (visible_nodes m rule part before) part s edge made in
+  pub edges_fit : All (λ edge. EdgeFits m (end_test part edge.mark) (visible_nodes m rule part before) edge) (edges_of_part m (declared_nodes rule.items) (said_in m rule) part)
+  edges_fit = All-made (λ (edge : PatternEdge). EdgeFits m (end_test part edge.mark) (visible_nodes m rule part before) edge) (edge_in m (declared_nodes rule.items) part) (checked_in m rule) (statements rule.items) (λ k s edge at made.
+      let is = edge_made m (declared_nodes rule.items) part s edge made in
       let right = subst (IsRight m rule k) is.is (clean.said k s at) in
       subst (λ (edge : PatternEdge). EdgeFits m (end_test part edge.mark) (visible_nodes m rule part before) edge) is.whole (edge_fits m (declared_nodes rule.items) part before opens is.mark is.source is.target is.reference right))
 
   -- ---- conditions
 
-  where_fits : (k : ℕ) (s : Statement) (e : Expr) → slice_get (statements rule.items) k ≡ Some s → where_in (names_in m rule part) part s ≡ Some e →
+  where_fits : (k : ℕ) (s : Statement) (e : Expr) → slice_get (statements rule.items) k ≡ Some s → where_in part (checked_in m rule s) ≡ Some e →
       (kind_in (scope_in m rule part before) e ≡ Some kind.Bool) × All (IsKnown (scope_in m rule part before)) (reads_of e)
   where_fits k s e at made =
-      let is = where_made (names_in m rule part) part s e made in
+      let is = where_made m (data_params rule.params) (declared_nodes rule.items) part s e made in
       let right = subst (IsRight m rule k) is.is (clean.said k s at) in
       expr_fits (names_in m rule part) (scope_in m rule part before) (agree m rule clean part before opens)
       is.test kind.Bool e (sound_where m (data_params rule.params) (declared_nodes rule.items) part is.word is.test right) is.expr
 
-  pub wheres_fit : All (λ e. kind_in (scope_in m rule part before) e ≡ Some kind.Bool) (wheres_in (names_in m rule part) (statements rule.items) part)
-  wheres_fit = All-filter_map (λ (e : Expr). kind_in (scope_in m rule part before) e ≡ Some kind.Bool)
-      (where_in (names_in m rule part) part) (statements rule.items) (λ k s e at made. (where_fits k s e at made).0)
+  pub wheres_fit : All (λ e. kind_in (scope_in m rule part before) e ≡ Some kind.Bool) (wheres_in (said_in m rule) part)
+  wheres_fit = All-made (λ (e : Expr). kind_in (scope_in m rule part before) e ≡ Some kind.Bool)
+      (where_in part) (checked_in m rule) (statements rule.items) (λ k s e at made. (where_fits k s e at made).0)
 
-  pub wheres_known : All (λ e. All (IsKnown (scope_in m rule part before)) (reads_of e)) (wheres_in (names_in m rule part) (statements rule.items) part)
-  wheres_known = All-filter_map (λ (e : Expr). All (IsKnown (scope_in m rule part before)) (reads_of e))
-      (where_in (names_in m rule part) part) (statements rule.items) (λ k s e at made. (where_fits k s e at made).1)
+  pub wheres_known : All (λ e. All (IsKnown (scope_in m rule part before)) (reads_of e)) (wheres_in (said_in m rule) part)
+  wheres_known = All-made (λ (e : Expr). All (IsKnown (scope_in m rule part before)) (reads_of e))
+      (where_in part) (checked_in m rule) (statements rule.items) (λ k s e at made. (where_fits k s e at made).1)

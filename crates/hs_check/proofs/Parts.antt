@@ -29,18 +29,19 @@ use Rattle.hs_faults.specs.Statements.{statements}
 use Rattle.hs_faults.specs.Marks.{mark_meant}
 use Rattle.hs_check.specs.Elements.{edge_in, edges_of_part, node_meant, nodes_in}
 use Rattle.hs_check.specs.Expressions.{sets_in, wheres_in}
-use Rattle.hs_check.specs.Rules.{multi_at, multi_meant, part_meant, rule_meant, rule_contents}
+use Rattle.hs_check.specs.Rules.{multi_at, multi_meant, part_meant, rule_meant}
+use Rattle.hs_faults.specs.Contents.{rule_contents}
 use Rattle.hs_check.proofs.Bounds.{block_opens, few_nodes, few_open, is_few, kernel_opens}
-use Rattle.hs_check.proofs.PartForms.{edges_fit, names_in, nodes_fit, visible_nodes, scope_in, wheres_fit, wheres_known}
+use Rattle.hs_check.proofs.PartForms.{checked_in, edges_fit, nodes_fit, said_in, visible_nodes, scope_in, wheres_fit, wheres_known}
 use Rattle.hs_check.proofs.ExprKinds.{IsKnown}
 use Rattle.hs_check.proofs.BlockIds.{KeepsEdge, KeepsNode, are_multis, edges_keep, nodes_keep}
 use Rattle.hs_check.proofs.Edges.{end_test}
 use Rattle.hs_check.proofs.StatementForms.{edge_made}
 use Rattle.hs_check.proofs.Visibility.{Opens, homes_same, node_in, node_made, nodes_in-picked}
-use Rattle.hs_check.proofs.Filters.{All-filter_map}
+use Rattle.hs_check.proofs.Filters.{All-filter_map, All-made}
 use Rattle.hs_check.proofs.Sets.{sets_fit, sets_known, sets_once}
 use Rattle.hs_check.proofs.NoFaults.{Clean}
-use Rattle.hs_check.proofs.SlotForms.{SameReads, are_slots}
+use Rattle.hs_check.proofs.SlotForms.{slots_in_form, SameReads, are_slots}
 use Rattle.hs_expr.proofs.Items.{All-at, All-from}
 use Rattle.hs_expr.proofs.Lists.{slice_get-first, All-flat_map}
 
@@ -64,9 +65,9 @@ nodes_kept m rule part pattern = subst (All (λ (node : PatternNode). is_keep no
     let home_is : is_pattern d.block ≡ true = ap is_pattern (sym (homes_same part d.block is.0)) ∙ pattern in
     subst (λ (node : PatternNode). is_keep node.mark ≡ true) is.1 (keep_is m d (All-at KeepsNode (declared_nodes rule.items) k d (nodes_keep rule.items) at home_is))))
 
-edges_kept : (m : Metamodel) (rule : WrittenRule) (part : BlockId) (nodes : List PatternNode) → is_pattern part ≡ true → All (λ edge. is_keep edge.mark ≡ true) (edges_of_part m nodes (statements rule.items) part)
-edges_kept m rule part nodes pattern = All-filter_map (λ (edge : PatternEdge). is_keep edge.mark ≡ true) (edge_in m nodes part) (statements rule.items) (λ k s edge at made.
-    let is = edge_made m nodes part s edge made in
+edges_kept : (m : Metamodel) (rule : WrittenRule) (part : BlockId) → is_pattern part ≡ true → All (λ edge. is_keep edge.mark ≡ true) (edges_of_part m (declared_nodes rule.items) (said_in m rule) part)
+edges_kept m rule part pattern = All-made (λ (edge : PatternEdge). is_keep edge.mark ≡ true) (edge_in m (declared_nodes rule.items) part) (checked_in m rule) (statements rule.items) (λ k s edge at made.
+    let is = edge_made m (declared_nodes rule.items) part s edge made in
     let preserved = subst KeepsEdge is.is (All-at KeepsEdge (statements rule.items) k s (edges_keep rule.items) at) pattern in
     sym (ap (λ (e : PatternEdge). is_keep e.mark) is.whole) ∙ ap (λ mark. is_keep (mark_meant mark)) preserved)
 
@@ -80,12 +81,12 @@ pattern_block home.Kernel e = absurd (false≢true e)
 pattern_block (home.Pattern i) e = refl
 pattern_block (home.Multi i) e = refl
 
-pub part_fits : (m : Metamodel) (rule : WrittenRule) → Clean m rule → (part : BlockId) → is_pattern part ≡ true → IsFewPart rule part → IsPart m (rule_meant m rule) (part_meant m (rule_contents rule) (kernel_of m rule) part)
+pub part_fits : (m : Metamodel) (rule : WrittenRule) → Clean m rule → (part : BlockId) → is_pattern part ≡ true → IsFewPart rule part → IsPart m (rule_meant m rule) (part_meant m (rule_contents m rule) part)
 part_fits m rule clean part pattern few = record {
   nodes_kept = nodes_kept m rule part pattern;
-  edges_kept = edges_kept m rule part (visible_nodes m rule part (kernel_of m rule)) pattern;
+  edges_kept = edges_kept m rule part pattern;
   nodes_fit = nodes_fit m rule clean part;
-  edges_fit = pattern_edges m part (visible_nodes m rule part (kernel_of m rule)) (edges_of_part m (visible_nodes m rule part (kernel_of m rule)) (statements rule.items) part) pattern
+  edges_fit = pattern_edges m part (visible_nodes m rule part (kernel_of m rule)) (edges_of_part m (declared_nodes rule.items) (said_in m rule) part) pattern
       (edges_fit m rule clean part (kernel_of m rule) (block_opens m rule clean part (pattern_block part pattern) few));
 }
 
@@ -102,28 +103,33 @@ multi_block (home.Pattern i) e = absurd (false≢true e)
 multi_block (home.Multi i) e = (refl, refl)
 
 -- The reads of a part of the rule.
-abbrev pub reads_there : Metamodel → WrittenRule → BlockId → List PatternNode → List SlotRead
-reads_there m rule part before = reads_in (wheres_in (names_in m rule part) (statements rule.items) part) (sets_in m (names_in m rule part) (visible_nodes m rule part before) (statements rule.items) part)
+abbrev pub reads_there : Metamodel → WrittenRule → BlockId → List SlotRead
+reads_there m rule part = reads_in (wheres_in (said_in m rule) part) (sets_in m (declared_nodes rule.items) (said_in m rule) part)
 
-reads_known : (m : Metamodel) (rule : WrittenRule) (clean : Clean m rule) (part : BlockId) (before : List PatternNode) → Opens m (declared_nodes rule.items) part before → All (IsKnown (scope_in m rule part before)) (reads_there m rule part before)
+reads_known : (m : Metamodel) (rule : WrittenRule) (clean : Clean m rule) (part : BlockId) (before : List PatternNode) → Opens m (declared_nodes rule.items) part before → All (IsKnown (scope_in m rule part before)) (reads_there m rule part)
 reads_known m rule clean part before opens =
-    All-append (IsKnown (scope_in m rule part before)) (flat_map reads_of (wheres_in (names_in m rule part) (statements rule.items) part))
-    (flat_map (λ (item : SetItem). reads_of item.value) (sets_in m (names_in m rule part) (visible_nodes m rule part before) (statements rule.items) part))
-    (All-flat_map (IsKnown (scope_in m rule part before)) reads_of (wheres_in (names_in m rule part) (statements rule.items) part) (wheres_known m rule clean part before opens))
-    (All-flat_map (IsKnown (scope_in m rule part before)) (λ (item : SetItem). reads_of item.value) (sets_in m (names_in m rule part) (visible_nodes m rule part before) (statements rule.items) part) (sets_known m rule clean part before opens))
+    All-append (IsKnown (scope_in m rule part before)) (flat_map reads_of (wheres_in (said_in m rule) part))
+    (flat_map (λ (item : SetItem). reads_of item.value) (sets_in m (declared_nodes rule.items) (said_in m rule) part))
+    (All-flat_map (IsKnown (scope_in m rule part before)) reads_of (wheres_in (said_in m rule) part) (wheres_known m rule clean part before opens))
+    (All-flat_map (IsKnown (scope_in m rule part before)) (λ (item : SetItem). reads_of item.value) (sets_in m (declared_nodes rule.items) (said_in m rule) part) (sets_known m rule clean part before opens))
 
-pub multi_fits : (m : Metamodel) → IsMeta m → (rule : WrittenRule) → Clean m rule → (part : BlockId) → is_multi part ≡ true → IsFewPart rule part → IsMulti m (rule_meant m rule) (multi_meant m (rule_contents rule) (kernel_of m rule) part)
+pub multi_fits : (m : Metamodel) → IsMeta m → (rule : WrittenRule) → Clean m rule → (part : BlockId) → is_multi part ≡ true → IsFewPart rule part → IsMulti m (rule_meant m rule) (multi_meant m (rule_contents m rule) (kernel_of m rule) part)
 multi_fits m is rule clean part multi few =
     let before = kernel_of m rule in
     let kinds = multi_block part multi in
     let opens = block_opens m rule clean part kinds.0 few in
+    let slots = slots_in_form m is before (nodes_in m (declared_nodes rule.items) part) (reads_there m rule part) (sets_in m (declared_nodes rule.items) (said_in m rule) part) (few_open m rule clean part few) in
     record {
-      nodes_fit = nodes_fit m rule clean part;
-      edges_fit = block_edges m part (visible_nodes m rule part before) (edges_of_part m (visible_nodes m rule part before) (statements rule.items) part) kinds.1 (edges_fit m rule clean part before opens);
+      form = record {
+        nodes_fit = nodes_fit m rule clean part;
+        edges_fit = block_edges m part (visible_nodes m rule part before) (edges_of_part m (declared_nodes rule.items) (said_in m rule) part) kinds.1 (edges_fit m rule clean part before opens);
+        in_order = slots.0;
+        at_own = slots.1;
+      };
       wheres_fit = wheres_fit m rule clean part before opens;
       sets_fit = sets_fit m rule clean part before opens;
       sets_once = sets_once m rule clean part before opens;
-      slots = are_slots m is (scope_in m rule part before) before (nodes_in m (declared_nodes rule.items) part) (reads_there m rule part before) (reads_there m rule part before) (sets_in m (names_in m rule part) (visible_nodes m rule part before) (statements rule.items) part)
+      slots = are_slots m is (scope_in m rule part before) before (nodes_in m (declared_nodes rule.items) part) (reads_there m rule part) (reads_there m rule part) (sets_in m (declared_nodes rule.items) (said_in m rule) part)
           (few_open m rule clean part few) (λ n a low high. refl) (reads_known m rule clean part before opens) (sets_fit m rule clean part before opens);
     }
 
@@ -156,16 +162,16 @@ any_kept {A} p t (x ∷ xs) h = go (t x) (p x) refl refl (any_kept p t xs h)
 -- The rule's reads, of which those at the kernel's nodes make its slots.
 kernel_known : (m : Metamodel) (rule : WrittenRule) → Clean m rule → All (IsFewPart rule) (each multi_at rule.items) → All (λ read. is_some (slot_kind m (kernel_of m rule) read.node read.attribute) ≡ true) (kernel_reads (rule_meant m rule))
 kernel_known m rule clean few = all_kept (λ (read : SlotRead). is_some (slot_kind m (kernel_of m rule) read.node read.attribute) ≡ true) (λ (read : SlotRead). nat_lt read.node (length (kernel_of m rule))) (all_reads (rule_meant m rule))
-    (All-append (IsKnownHere m (kernel_of m rule)) (reads_there m rule home.Kernel [])
-    (flat_map (λ (multi : Multi). reads_in multi.wheres multi.sets) (map (multi_meant m (rule_contents rule) (kernel_of m rule)) (each multi_at rule.items)))
-    (All-weaker (IsKnown (scope_in m rule home.Kernel [])) (IsKnownHere m (kernel_of m rule)) (λ read known below. known) (reads_there m rule home.Kernel []) (reads_known m rule clean home.Kernel [] (kernel_opens m rule clean)))
-    (All-flat_map (IsKnownHere m (kernel_of m rule)) (λ (multi : Multi). reads_in multi.wheres multi.sets) (map (multi_meant m (rule_contents rule) (kernel_of m rule)) (each multi_at rule.items))
-    (All-map (λ (multi : Multi). All (IsKnownHere m (kernel_of m rule)) (reads_in multi.wheres multi.sets)) (multi_meant m (rule_contents rule) (kernel_of m rule)) (each multi_at rule.items)
-    (All-from (λ (part : BlockId). All (IsKnownHere m (kernel_of m rule)) (reads_there m rule part (kernel_of m rule))) (each multi_at rule.items) (λ k part at.
+    (All-append (IsKnownHere m (kernel_of m rule)) (reads_there m rule home.Kernel)
+    (flat_map (λ (multi : Multi). reads_in multi.wheres multi.sets) (map (multi_meant m (rule_contents m rule) (kernel_of m rule)) (each multi_at rule.items)))
+    (All-weaker (IsKnown (scope_in m rule home.Kernel [])) (IsKnownHere m (kernel_of m rule)) (λ read known below. known) (reads_there m rule home.Kernel) (reads_known m rule clean home.Kernel [] (kernel_opens m rule clean)))
+    (All-flat_map (IsKnownHere m (kernel_of m rule)) (λ (multi : Multi). reads_in multi.wheres multi.sets) (map (multi_meant m (rule_contents m rule) (kernel_of m rule)) (each multi_at rule.items))
+    (All-map (λ (multi : Multi). All (IsKnownHere m (kernel_of m rule)) (reads_in multi.wheres multi.sets)) (multi_meant m (rule_contents m rule) (kernel_of m rule)) (each multi_at rule.items)
+    (All-from (λ (part : BlockId). All (IsKnownHere m (kernel_of m rule)) (reads_there m rule part)) (each multi_at rule.items) (λ k part at.
     let multi = All-at (λ (h : BlockId). is_multi h ≡ true) (each multi_at rule.items) k part (are_multis rule.items) at in
     let opens = block_opens m rule clean part (multi_block part multi).0 (All-at (IsFewPart rule) (each multi_at rule.items) k part few at) in
     All-weaker (IsKnown (scope_in m rule part (kernel_of m rule))) (IsKnownHere m (kernel_of m rule)) (known_here m (kernel_of m rule) (nodes_in m (declared_nodes rule.items) part))
-    (reads_there m rule part (kernel_of m rule)) (reads_known m rule clean part (kernel_of m rule) opens))))))
+    (reads_there m rule part) (reads_known m rule clean part (kernel_of m rule) opens))))))
 
 same_reads : (reads : List SlotRead) (high : ℕ) → SameReads reads (filter (λ (read : SlotRead). nat_lt read.node high) reads) 0 (0 + high)
 same_reads reads high n a low below = any_kept (λ (read : SlotRead). eqb read.node n && is_kind (Attribute read.attribute) (Attribute a)) (λ (read : SlotRead). nat_lt read.node high) reads (λ read e.
@@ -177,11 +183,16 @@ pub kernel_fits : (m : Metamodel) → IsMeta m → (rule : WrittenRule) → Clea
 kernel_fits m is rule clean few =
     let opens = kernel_opens m rule clean in
     let nodes = kernel_of m rule in
-    let sets = sets_in m (names_in m rule home.Kernel) nodes (statements rule.items) home.Kernel in
+    let sets = sets_in m (declared_nodes rule.items) (said_in m rule) home.Kernel in
     let few_here = few_nodes m (declared_nodes rule.items) (statements rule.items) home.Kernel (is_few m rule clean).kernel in
+    let slots = slots_in_form m is [] nodes (all_reads (rule_meant m rule)) sets (omega arith) in
     record {
-      nodes_fit = nodes_fit m rule clean home.Kernel;
-      edges_fit = edges_fit m rule clean home.Kernel [] opens;
+      form = record {
+        nodes_fit = nodes_fit m rule clean home.Kernel;
+        edges_fit = edges_fit m rule clean home.Kernel [] opens;
+        in_order = slots.0;
+        at_own = slots.1;
+      };
       wheres_fit = wheres_fit m rule clean home.Kernel [] opens;
       sets_fit = sets_fit m rule clean home.Kernel [] opens;
       sets_once = sets_once m rule clean home.Kernel [] opens;

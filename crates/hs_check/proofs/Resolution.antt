@@ -1,54 +1,55 @@
 -- What statements, declarations and calls of a text without faults name is found.
-use Rattle.std.proofs.Common.{ℕ, ◌+◌, ◌≡◌, ◌&&◌, ◌||◌, suc, List, [], ◌∷◌, Bool, true, false, take, slice_get, is_some, Option, Some, None, Ok, if◌then◌else◌, refl, ap, sym, ◌∙◌}
-use Rattle.std.proofs.lemmas.Bool.{and_from, and_parts, false≢true, or_left, or_right}
-use Rattle.std.proofs.lemmas.List.Elements.{All-append, All-cons, All-nil}
-use Rattle.std.specs.List.{All, flat_map, list_all}
-use Rattle.std.specs.Option.{option_and_then, option_map, option_or}
+use Rattle.std.proofs.Common.{ℕ, ◌≡◌, ◌&&◌, ◌||◌, suc, List, [], ◌∷◌, Bool, true, false, take, slice_get, is_some, Option, Some, None, Ok, if◌then◌else◌, refl, ap, ◌∙◌, ◌+◌, sym}
+use Rattle.std.proofs.lemmas.Bool.{and_from, false≢true, or_left, or_right, and_parts}
+use Rattle.std.specs.List.{flat_map, list_all, All}
+use Rattle.std.specs.Option.{option_and_then, option_map, option_or, option_map_or}
 use Rattle.hs_expr.specs.declared.Kind.{Kind}
 use Rattle.hs_expr.specs.declared.Name.{Name}
-use Rattle.hs_expr.specs.Verdict.{each_from, verdict}
+use Rattle.hs_expr.specs.Verdict.{verdict, each_from}
 use Rattle.hs_text.specs.declared.syntax.Call.{Call}
 use Rattle.hs_text.specs.declared.syntax.Definition.{Definition}
+use Rattle.hs_text.specs.declared.syntax.Param.{Param}
+use Rattle.hs_text.specs.declared.syntax.Rule.{Rule}
+use Rattle.hs_text.specs.declared.syntax.Unit.{Unit as WrittenUnit}
+use Rattle.hs_types.specs.declared.meta.Metamodel.{Metamodel}
+use Rattle.hs_faults.specs.declared.nodes.BlockId.{BlockId}
+use Rattle.hs_faults.specs.declared.nodes.DeclaredNode.{DeclaredNode}
+use Rattle.hs_faults.specs.Declarations.{class_name_faults, param_kind_faults}
+use Rattle.hs_faults.specs.Names.{as_attribute, class_number, data_named, feature_named}
+use Rattle.hs_faults.specs.Nodes.{declared_nodes}
+use Rattle.hs_faults.specs.Numbers.{data_params}
+use Rattle.hs_faults.specs.StatementFaults.{node_class, slot_set_by, visible_node}
+use Rattle.hs_types.specs.Metamodel.{target_of}
+use Rattle.hs_faults.specs.Statements.{Statement, Edge, Set, Where, statements, statement_of_element, statement_of_simple, statements_of_item}
+use Rattle.hs_faults.specs.UnitFaults.{argument_faults, call_faults, callee_params, faults_of, first_rule, first_unit, is_known_kind, rules_of, units_of, written_calls}
+use Rattle.hs_check.specs.Elements.{node_feature}
+use Rattle.hs_check.proofs.Lookups.{came}
+use Rattle.hs_check.specs.Resolution.{Resolve, call_resolves, finds_feature, is_placed, node_resolves, nodes_before, nodes_seen, param_resolves, rule_resolves, statement_resolves, unit_resolves}
+use Rattle.hs_check.specs.Units.{callees, place_among}
+use Rattle.hs_check.proofs.Callees.{at_number}
+use Rattle.hs_check.proofs.NoFaults.{Clean, known_class, sound_edge, sound_set}
+use Rattle.hs_check.proofs.NoUnitFaults.{CleanText, CleanUnit, clean_text}
+use Rattle.hs_expr.proofs.Faults.{none-from_verdict}
+use Rattle.hs_check.proofs.UnitForms.{some_callee}
+use Rattle.hs_expr.proofs.Items.{All-at}
+use Rattle.std.proofs.lemmas.List.Elements.{All-append, All-cons, All-nil}
 use Rattle.hs_text.specs.declared.syntax.Element.{Element}
 use Rattle.hs_text.specs.declared.syntax.Element.TheVariants as element
 use Rattle.hs_text.specs.declared.syntax.Item.{Item}
 use Rattle.hs_text.specs.declared.syntax.Item.TheVariants as item
 use Rattle.hs_text.specs.declared.syntax.Mark.{Mark}
 use Rattle.hs_text.specs.declared.syntax.Mark.TheVariants.{Preserve}
-use Rattle.hs_text.specs.declared.syntax.Param.{Param}
-use Rattle.hs_text.specs.declared.syntax.Rule.{Rule}
 use Rattle.hs_text.specs.declared.syntax.Simple.{Simple}
 use Rattle.hs_text.specs.declared.syntax.Simple.TheVariants as simple
-use Rattle.hs_text.specs.declared.syntax.Unit.{Unit as WrittenUnit}
-use Rattle.hs_types.specs.declared.meta.Metamodel.{Metamodel}
 use Rattle.hs_types.specs.declared.rule.PatternNode.{PatternNode}
-use Rattle.hs_faults.specs.declared.nodes.BlockId.{BlockId}
 use Rattle.hs_faults.specs.declared.nodes.BlockId.TheVariants.{Kernel, Pattern, Multi}
-use Rattle.hs_faults.specs.declared.nodes.DeclaredNode.{DeclaredNode}
-use Rattle.hs_faults.specs.Declarations.{class_name_faults, param_kind_faults}
-use Rattle.hs_faults.specs.Names.{class_number, data_named, feature_named}
-use Rattle.hs_faults.specs.Nodes.{declared_nodes}
-use Rattle.hs_faults.specs.Numbers.{data_params}
 use Rattle.hs_faults.specs.Sizes.{block_of, has_few}
-use Rattle.hs_faults.specs.StatementFaults.{slot_set_by}
-use Rattle.hs_faults.specs.Statements.{Statement, Edge, Set, Where, statement_of_element, statement_of_simple, statements, statements_of_item}
-use Rattle.hs_faults.specs.UnitFaults.{argument_faults, call_faults, callee_params, faults_of, first_rule, first_unit, is_known_kind, rules_of, units_of, written_calls}
-use Rattle.hs_check.specs.Elements.{feature_found, node_found, node_meant}
-use Rattle.hs_check.specs.Parameters.{class_meant}
-use Rattle.hs_check.specs.Resolution.{Resolve, call_resolves, finds_feature, node_resolves, nodes_before, nodes_seen, param_resolves, rule_resolves, statement_resolves, unit_resolves}
-use Rattle.hs_check.specs.Units.{callees, place_among}
 use Rattle.hs_check.proofs.BlockIds.{list_all-both}
 use Rattle.hs_check.proofs.Bounds.{block_opens, is_few, kernel_opens}
-use Rattle.hs_check.proofs.Callees.{at_number}
-use Rattle.hs_check.proofs.Edges.{feature_at_spot, reference_spot}
+use Rattle.hs_check.proofs.Edges.{node_at_spot}
 use Rattle.hs_check.proofs.Filters.{All-flat_map}
-use Rattle.hs_check.proofs.NoFaults.{Clean, known_class, sound_edge, sound_set}
-use Rattle.hs_check.proofs.NoUnitFaults.{CleanText, CleanUnit, clean_text}
-use Rattle.hs_expr.proofs.Faults.{none-from_verdict}
-use Rattle.hs_check.proofs.StatementForms.{attribute_spot}
-use Rattle.hs_check.proofs.UnitForms.{some_callee}
-use Rattle.hs_check.proofs.Visibility.{Opens, Spot}
-use Rattle.hs_expr.proofs.Items.{All-at}
+use Rattle.hs_check.proofs.Visibility.{Opens, spot_called}
+use Rattle.hs_expr.specs.Lists.{same_text}
 
 list_all-from : {A : Type 0} (p : A → Bool) (xs : List A) → ((k : ℕ) (x : A) → slice_get xs k ≡ Some x → p x ≡ true) → list_all p xs ≡ true
 list_all-from p [] h = refl
@@ -96,30 +97,41 @@ opens_at m rule clean Kernel few = kernel_opens m rule clean
 opens_at m rule clean (Pattern i) few = block_opens m rule clean (Pattern i) refl few
 opens_at m rule clean (Multi i) few = block_opens m rule clean (Multi i) refl few
 
-feature_there : (m : Metamodel) (nodes : List PatternNode) (name feature : List ℕ) (d : DeclaredNode) (f : ℕ) → Spot m nodes name d → feature_named m (class_meant m d.class.text) feature ≡ Some f → finds_feature m nodes name feature ≡ true
-feature_there m nodes name feature d f spot named =
-    ap is_some (ap (option_and_then (λ (n : ℕ). feature_found m nodes n feature)) spot.number_is ∙ feature_at_spot m nodes _ feature (node_meant m d) f spot.at named)
+feature_there : (m : Metamodel) (ds : List DeclaredNode) (block : BlockId) (name feature : List ℕ) (d : DeclaredNode) (f : ℕ) → visible_node ds block name ≡ Some d → node_feature m feature d ≡ Some f → finds_feature m ds block name feature ≡ true
+feature_there m ds block name feature d f found named = ap is_some (ap (option_and_then (node_feature m feature)) found ∙ named)
+
+-- Where a step by way of the feature of a node finds something, the feature is there.
+by_feature : {A : Type 0} (m : Metamodel) (feature : List ℕ) (next : ℕ → Option A) (d : DeclaredNode) (x : A) → option_and_then (λ c. option_and_then next (feature_named m c feature)) (node_class m d) ≡ Some x → (f : ℕ) × (node_feature m feature d ≡ Some f)
+by_feature m feature next d x e =
+    let class = came (node_class m d) (λ c. option_and_then next (feature_named m c feature)) x e in
+    let f = came (feature_named m class.0 feature) next x class.2 in
+    (f.0, ap (option_and_then (λ c. feature_named m c feature)) class.1 ∙ f.1)
+
+-- A node that may be named is at its number.
+placed_there : (m : Metamodel) (ds : List DeclaredNode) (block : BlockId) → Opens m ds block (nodes_before m ds block) → (name : List ℕ) (d : DeclaredNode) → visible_node ds block name ≡ Some d → is_placed m ds block name ≡ true
+placed_there m ds block opens name d open_is =
+    let spot = opens.found name d open_is in
+    ap (λ (o : Option PatternNode). option_map_or (λ node. same_text name node.name) o false) (node_at_spot m ds (nodes_seen m ds block) name d spot)
+    ∙ spot_called m ds (nodes_seen m ds block) name d spot
 
 statement_there : (m : Metamodel) (rule : Rule) → Clean m rule → (k : ℕ) (s : Statement) → slice_get (statements rule.items) k ≡ Some s → few_at rule (block_at s) ≡ true → statement_resolves m (declared_nodes rule.items) s ≡ true
 statement_there m rule clean k (Where block word test) at few = refl
 statement_there m rule clean k (Edge block mark source target reference) at few =
     let ds = declared_nodes rule.items in
-    let nodes = nodes_seen m ds block in
     let opens = opens_at m rule clean block few in
     let sound = sound_edge m ds block mark source target reference (clean.said k (Edge block mark source target reference) at) in
-    let from = opens.found source.text sound.from sound.from_open in
-    let to = opens.found target.text sound.to sound.to_open in
-    let by = reference_spot m nodes source.text reference.text sound.from sound.class from sound.leads in
-    and_from (finds_feature m nodes source.text reference.text) (is_some (node_found nodes target.text))
-    (feature_there m nodes source.text reference.text sound.from by.number from by.named) (ap is_some to.number_is)
+    let by = by_feature m reference.text (target_of m) sound.from sound.class sound.leads in
+    and_from (finds_feature m ds block source.text reference.text) (is_placed m ds block source.text && is_placed m ds block target.text)
+    (feature_there m ds block source.text reference.text sound.from by.0 sound.from_open by.1)
+    (and_from (is_placed m ds block source.text) (is_placed m ds block target.text)
+    (placed_there m ds block opens source.text sound.from sound.from_open) (placed_there m ds block opens target.text sound.to sound.to_open))
 statement_there m rule clean k (Set block node attribute value) at few =
     let ds = declared_nodes rule.items in
-    let nodes = nodes_seen m ds block in
-    let opens = opens_at m rule clean block few in
     let sound = sound_set m (data_params rule.params) ds (flat_map slot_set_by (take k (statements rule.items))) block node attribute value (clean.said k (Set block node attribute value) at) in
-    let spot = opens.found node.text sound.written sound.written_open in
-    let by = attribute_spot m nodes node.text attribute.text sound.written sound.wanted spot sound.named in
-    feature_there m nodes node.text attribute.text sound.written sound.wanted.0 spot by.named
+    let by = by_feature m attribute.text (as_attribute m) sound.written sound.wanted sound.named in
+    and_from (finds_feature m ds block node.text attribute.text) (is_placed m ds block node.text)
+    (feature_there m ds block node.text attribute.text sound.written by.0 sound.written_open by.1)
+    (placed_there m ds block (opens_at m rule clean block few) node.text sound.written sound.written_open)
 
 kind_there : (m : Metamodel) (word : Name) → param_kind_faults m word ≡ [] → is_known_kind m word.text ≡ true
 kind_there m word e = go (data_named word.text) e

@@ -15,7 +15,8 @@ use Rattle.hs_faults.specs.Sizes.{has_few, is_multi, is_pattern}
 use Rattle.hs_faults.specs.Nodes.{declared_nodes}
 use Rattle.hs_faults.specs.Statements.{statements}
 use Rattle.hs_faults.specs.UnitFaults.{rules_of}
-use Rattle.hs_check.specs.Rules.{forbid_at, multi_at, multi_meant, part_meant, require_at, rule_meant, rules_meant, rule_contents}
+use Rattle.hs_check.specs.Rules.{forbid_at, multi_at, multi_meant, part_meant, require_at, rule_meant, rules_meant}
+use Rattle.hs_faults.specs.Contents.{rule_contents}
 use Rattle.hs_check.proofs.Uniqueness.{params_apart}
 use Rattle.hs_check.proofs.Params.{names_differ, params_fit}
 use Rattle.hs_check.proofs.Bounds.{is_few}
@@ -34,14 +35,14 @@ few_requires m rule clean = each_passes (has_few (declared_nodes rule.items) (st
 pub few_multis : (m : Metamodel) (rule : WrittenRule) → Clean m rule → All (IsFewPart rule) (each multi_at rule.items)
 few_multis m rule clean = each_passes (has_few (declared_nodes rule.items) (statements rule.items)) multi_at (multi_passes (has_few (declared_nodes rule.items) (statements rule.items))) 0 rule.items (is_few m rule clean).each_block
 
-parts_fit : (m : Metamodel) (rule : WrittenRule) → Clean m rule → (parts : List BlockId) → All (λ h. is_pattern h ≡ true) parts → All (IsFewPart rule) parts → All (IsPart m (rule_meant m rule)) (map (part_meant m (rule_contents rule) (kernel_of m rule)) parts)
-parts_fit m rule clean parts patterns few = All-map (IsPart m (rule_meant m rule)) (part_meant m (rule_contents rule) (kernel_of m rule)) parts
-    (All-from (λ (h : BlockId). IsPart m (rule_meant m rule) (part_meant m (rule_contents rule) (kernel_of m rule) h)) parts (λ k h at.
+parts_fit : (m : Metamodel) (rule : WrittenRule) → Clean m rule → (parts : List BlockId) → All (λ h. is_pattern h ≡ true) parts → All (IsFewPart rule) parts → All (IsPart m (rule_meant m rule)) (map (part_meant m (rule_contents m rule)) parts)
+parts_fit m rule clean parts patterns few = All-map (IsPart m (rule_meant m rule)) (part_meant m (rule_contents m rule)) parts
+    (All-from (λ (h : BlockId). IsPart m (rule_meant m rule) (part_meant m (rule_contents m rule) h)) parts (λ k h at.
     part_fits m rule clean h (All-at (λ (h : BlockId). is_pattern h ≡ true) parts k h patterns at) (All-at (IsFewPart rule) parts k h few at)))
 
-multis_fit : (m : Metamodel) → IsMeta m → (rule : WrittenRule) → Clean m rule → All (IsMulti m (rule_meant m rule)) (map (multi_meant m (rule_contents rule) (kernel_of m rule)) (each multi_at rule.items))
-multis_fit m is rule clean = All-map (IsMulti m (rule_meant m rule)) (multi_meant m (rule_contents rule) (kernel_of m rule)) (each multi_at rule.items)
-    (All-from (λ (h : BlockId). IsMulti m (rule_meant m rule) (multi_meant m (rule_contents rule) (kernel_of m rule) h)) (each multi_at rule.items) (λ k h at.
+multis_fit : (m : Metamodel) → IsMeta m → (rule : WrittenRule) → Clean m rule → All (IsMulti m (rule_meant m rule)) (map (multi_meant m (rule_contents m rule) (kernel_of m rule)) (each multi_at rule.items))
+multis_fit m is rule clean = All-map (IsMulti m (rule_meant m rule)) (multi_meant m (rule_contents m rule) (kernel_of m rule)) (each multi_at rule.items)
+    (All-from (λ (h : BlockId). IsMulti m (rule_meant m rule) (multi_meant m (rule_contents m rule) (kernel_of m rule) h)) (each multi_at rule.items) (λ k h at.
     multi_fits m is rule clean h (All-at (λ (h : BlockId). is_multi h ≡ true) (each multi_at rule.items) k h (are_multis rule.items) at) (All-at (IsFewPart rule) (each multi_at rule.items) k h (few_multis m rule clean) at)))
 
 formed : (m : Metamodel) → IsMeta m → (rule : WrittenRule) → Clean m rule → IsRule m (rule_meant m rule)

@@ -118,10 +118,11 @@ slots_agree : (m : Metamodel) (ds : List DeclaredNode) (part : BlockId) (before 
 slots_agree m ds part before opens owner name d n a named is of_node =
     let seen : visible_node ds part owner ≡ Some d = ap (option_and_then (λ (node : DeclaredNode). if is_visible part node then Some node else None)) named ∙ ap (λ (b : Bool). if b then Some d else None) is.visible in
     let class : ℕ = class_meant m d.class.text in
-    let f = came (feature_named m class name) (as_attribute m) a (by_class m d (λ c. class_attribute m c name) class a (opens.found owner d seen).class of_node) in
+    let spot = opens.found owner d seen in
+    let f = came (feature_named m class name) (as_attribute m) a (by_class m d (λ c. class_attribute m c name) class a spot.class of_node) in
     let type = attribute_is m f.0 a f.2 in
     let there : has (attributes_of m class) a.0 ≡ true = has_attribute m class name a (f.1 ∙ ap (λ (i : ℕ). Some i) type.0) type.1 in
-    ap (option_and_then (λ (node : PatternNode). if is_left node.mark && has (attributes_of m node.class) a.0 then option_map kind_of_type (type_of m a.0) else None)) (ap (slice_get (before ++ nodes_in m ds part)) (sym is.number) ∙ opens.numbered owner d seen)
+    ap (option_and_then (λ (node : PatternNode). if is_left node.mark && has (attributes_of m node.class) a.0 then option_map kind_of_type (type_of m a.0) else None)) (ap (slice_get (before ++ nodes_in m ds part)) (sym is.number) ∙ spot.at)
     ∙ ap (λ (b : Bool). if b then option_map kind_of_type (type_of m a.0) else None) (and_from (is_left (mark_meant d.mark)) (has (attributes_of m class) a.0) is.left there) ∙ type.1
 
 -- What the names of a part denote has its kind among the nodes that the part may name.

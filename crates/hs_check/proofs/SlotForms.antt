@@ -20,8 +20,8 @@ use Rattle.hs_types.specs.declared.rule.SlotKind.TheVariants.{Attribute}
 use Rattle.hs_expr.specs.Lists.{Differ, EachPair, has}
 use Rattle.hs_types.specs.Metamodel.{IsMeta, attributes_of, class_at, feature_at, features_of, type_of, kind_of_type}
 use Rattle.hs_types.specs.Pattern.{is_drop, is_keep, is_kind, is_left, node_is}
-use Rattle.hs_types.specs.RuleForm.{AreSlots, SetFits, SlotBefore, has_slot, is_read, is_set, slot_kind}
-use Rattle.hs_check.specs.Slots.{is_used, slot_at, slot_with, slots_at_node, slots_from}
+use Rattle.hs_types.specs.RuleForm.{AreSlots, SetFits, SlotBefore, has_slot, is_among, slot_kind, slot_of_read, slot_of_set, slots_read, slots_set}
+use Rattle.hs_check.specs.Slots.{is_read, is_set, is_used, slot_at, slot_with, slots_at_node, slots_from}
 use Rattle.hs_check.proofs.Visibility.{number_there}
 use Rattle.hs_check.proofs.Filters.{EachPair-from, EachPair-map, slice_get-rest}
 use Rattle.hs_expr.proofs.Items.{All-at, All-each_from, All-from, any_at}
@@ -253,17 +253,42 @@ plain m reads sets first (node ∷ own) few =
     (ap (λ (o : Option ℕ). option_map_or (λ n. slots_at_node m reads sets n node) o []) (number_there first (omega arith)))
     (plain m reads sets (first + 1) own (omega arith))
 
+-- What is read or set, as slots of nodes.
+among_read : (reads : List SlotRead) (slot : PatternSlot) → is_among (slots_read reads) slot ≡ is_read reads slot
+among_read [] slot = refl
+among_read (read ∷ reads) slot = ap (λ b. (eqb read.node slot.node && is_kind (Attribute read.attribute) slot.kind) || b) (among_read reads slot)
+
+among_set : (sets : List SetItem) (slot : PatternSlot) → is_among (slots_set sets) slot ≡ is_set sets slot
+among_set [] slot = refl
+among_set (item ∷ sets) slot = ap (λ b. (eqb item.node slot.node && is_kind (Attribute item.attribute) slot.kind) || b) (among_set sets slot)
+
+-- The slots are in order, and of the block's own left nodes.
+pub slots_in_form : (m : Metamodel) → IsMeta m → (before own : List PatternNode) (reads : List SlotRead) (sets : List SetItem) → length before + length own ≤ 65536 →
+    EachPair (SlotBefore m (before ++ own)) (slots_from m reads sets (length before) own) × All (λ slot. (length before ≤ slot.node) × (node_is is_left (before ++ own) slot.node ≡ true)) (slots_from m reads sets (length before) own)
+slots_in_form m is before own reads sets few = subst (λ (slots : List PatternSlot). EachPair (SlotBefore m (before ++ own)) slots × All (λ slot. (length before ≤ slot.node) × (node_is is_left (before ++ own) slot.node ≡ true)) slots) (sym (plain m reads sets (length before) own few)) (
+  in_order_from m is (before ++ own) reads sets (length before) own (placed before own),
+  of_each m (λ (slot : PatternSlot). (length before ≤ slot.node) × (node_is is_left (before ++ own) slot.node ≡ true)) before own reads sets
+      (λ i node here left a t. (let low : length before ≤ length before + i = omega arith in low, rw (placed before own i node here) left)),
+)
+
 pub are_slots : (m : Metamodel) → IsMeta m → (scope : Scope) (before own : List PatternNode) (reads those : List SlotRead) (sets : List SetItem) → length before + length own ≤ 65536 → SameReads reads those (length before) (length before + length own) →
     All (λ read. is_some (slot_kind m (before ++ own) read.node read.attribute) ≡ true) those → All (λ item. (length before ≤ item.node) × SetFits m scope (before ++ own) item) sets →
-    AreSlots m (before ++ own) (length before) those sets (slots_from m reads sets (length before) own)
-are_slots m is scope before own reads those sets few same all_known all_fit = subst (AreSlots m (before ++ own) (length before) those sets) (sym (plain m reads sets (length before) own few)) (record {
-  in_order = in_order_from m is (before ++ own) reads sets (length before) own (placed before own);
-  at_own = of_each m (λ (slot : PatternSlot). (length before ≤ slot.node) × (node_is is_left (before ++ own) slot.node ≡ true)) before own reads sets
-      (λ i node here left a t. (let low : length before ≤ length before + i = omega arith in low, rw (placed before own i node here) left));
-  needed = of_each m (λ (slot : PatternSlot). ((is_read those slot || is_set sets slot) ≡ true) × (slot.written ≡ is_set sets slot)) before own reads sets
+    AreSlots (before ++ own) (length before) (slots_read those) (slots_set sets) (slots_from m reads sets (length before) own)
+are_slots m is scope before own reads those sets few same all_known all_fit = subst (AreSlots (before ++ own) (length before) (slots_read those) (slots_set sets)) (sym (plain m reads sets (length before) own few)) (record {
+  needed = of_each m Needed before own reads sets
       (λ i node here left a t.
       let below = slice_get_within own i node here in
-      (ap (λ b. b || is_set_at sets (length before + i) a) (sym (same (length before + i) a (omega arith) (omega arith))) ∙ t, refl));
-  all_read = all_read_there m before own reads those sets same all_known;
-  all_set = all_set_there m scope before own reads sets all_fit;
+      let slot = slot_at sets (length before + i) a in (
+        ap (λ b. b || is_among (slots_set sets) slot) (among_read those slot) ∙ ap (λ b. is_read those slot || b) (among_set sets slot)
+            ∙ ap (λ b. b || is_set_at sets (length before + i) a) (sym (same (length before + i) a (omega arith) (omega arith))) ∙ t,
+        sym (among_set sets slot),
+      ));
+  all_read = All-map (λ s. length before ≤ s.node → has_slot slots s.node s.kind ≡ true) slot_of_read those (all_read_there m before own reads those sets same all_known);
+  all_written = All-map (λ s. node_is is_keep (before ++ own) s.node ≡ true → has_slot slots s.node s.kind ≡ true) slot_of_set sets (all_set_there m scope before own reads sets all_fit);
 })
+  where
+    Needed : PatternSlot → Type 0
+    Needed slot = ((is_among (slots_read those) slot || is_among (slots_set sets) slot) ≡ true) × (slot.written ≡ is_among (slots_set sets) slot)
+
+    slots : List PatternSlot
+    slots = each_from (slots_at_node m reads sets) (length before) own

@@ -2,10 +2,12 @@
 use Rattle.std.proofs.Common.{refl, is_some, ℕ, ◌≤◌, ◌≡◌, List, true, false, slice_get, Option, Some, None, Ok, Err, nat_le, ap, sym, ◌∙◌, subst}
 use Rattle.std.proofs.lemmas.Bool.{leb-true}
 use Rattle.std.proofs.lemmas.Option.{none-some, same_Some}
-use Rattle.std.specs.List.{All, position_or_len}
-use Rattle.std.specs.Option.{option_map, option_map_or, unwrap_or}
+use Rattle.std.specs.List.{All}
+use Rattle.std.specs.Option.{option_map, option_map_or}
 use Rattle.hs_eval.specs.Checking.{Names, Outcome, check_tree}
 use Rattle.hs_eval.specs.Naming.{Agrees}
+use Rattle.hs_eval.specs.Results.{checked_of, ok_map}
+use Rattle.hs_expr.specs.Steps.{fault_as}
 use Rattle.hs_expr.specs.declared.Expr.{Expr}
 use Rattle.hs_expr.specs.declared.Kind.{Kind}
 use Rattle.hs_expr.specs.declared.Name.{Name}
@@ -26,15 +28,17 @@ use Rattle.hs_faults.specs.declared.nodes.DeclaredNode.{DeclaredNode}
 use Rattle.hs_faults.specs.declared.nodes.BlockId.{BlockId}
 use Rattle.hs_faults.specs.Names.{as_attribute, class_attribute, feature_named, is_named}
 use Rattle.hs_faults.specs.Statements.{Statement, Edge, Set, Where}
-use Rattle.hs_faults.specs.StatementFaults.{attribute_of, same_block}
+use Rattle.hs_faults.specs.StatementFaults.{attribute_of, expr_checked, rule_fault, rule_scope, same_block}
+use Rattle.hs_faults.specs.declared.data_parameters.DataParam.{DataParam}
 use Rattle.hs_faults.specs.Marks.{mark_meant}
-use Rattle.hs_check.specs.Elements.{edge_in, edge_meant, feature_number, node_meant, node_number}
-use Rattle.hs_check.specs.Expressions.{expr_found, expr_meant, set_in, set_meant, where_in}
+use Rattle.hs_check.specs.Elements.{edge_meant, edge_of, feature_number, node_meant, node_number}
+use Rattle.hs_faults.specs.Contents.{expr_found, statement_expr}
+use Rattle.hs_check.specs.Expressions.{set_meant, set_of, where_of}
 use Rattle.hs_check.specs.Parameters.{class_meant}
 use Rattle.hs_check.proofs.Lookups.{came, tested}
 use Rattle.hs_check.proofs.ExprKinds.{IsKnown, fits, inside}
-use Rattle.hs_check.proofs.Edges.{by_class, feature_at_spot, node_at_spot}
-use Rattle.hs_check.proofs.Visibility.{Spot, called, homes_same, spot_called}
+use Rattle.hs_check.proofs.Edges.{by_class, feature_at_spot, number_at_spot}
+use Rattle.hs_check.proofs.Visibility.{Spot, homes_same, spot_called}
 use Rattle.hs_check.proofs.Filters.{find_here}
 use Rattle.hs_check.proofs.NoFaults.{IsOfKind}
 use Rattle.hs_expr.proofs.Items.{found-has, has-kept, option_map-some, text_same}
@@ -47,18 +51,18 @@ record Found (c : Outcome) (e : Expr) : Type 0 where
   is : c ≡ Ok (e, kind)
   flat : nesting e ≤ 32
 
-found : (c : Outcome) (e : Expr) → expr_found c ≡ Some e → Found c e
+found : (c : Outcome) (e : Expr) → expr_found (fault_as rule_fault (ok_map checked_of c)) ≡ Some e → Found c e
 found (Err fault) e is = absurd (none-some e is)
 found (Ok x) e is =
     let kept_here = tested (nat_le (nesting x.0) 32) (Some x.0) e is in
     let same = same_Some x.0 e kept_here.1 in
     record { kind = x.1; is = ap (λ (a : Expr). Ok (a, x.1)) same; flat = subst (λ (a : Expr). nesting a ≤ 32) same (leb-true (nesting x.0) 32 kept_here.0) }
 
-pub expr_flat : (names : Names) (value : NameExpr) (e : Expr) → expr_meant names value ≡ Some e → nesting e ≤ 32
+pub expr_flat : (names : Names) (value : NameExpr) (e : Expr) → expr_found (expr_checked names value) ≡ Some e → nesting e ≤ 32
 expr_flat names value e made = (found (check_tree names (expr_tree value)) e made).flat
 
 -- An expression by numbers has the kind that was checked, and reads what the scope knows.
-pub expr_fits : (names : Names) (scope : Scope) → Agrees names scope → (value : NameExpr) (k : Kind) (e : Expr) → IsOfKind names value k → expr_meant names value ≡ Some e → (kind_in scope e ≡ Some k) × All (IsKnown scope) (reads_of e)
+pub expr_fits : (names : Names) (scope : Scope) → Agrees names scope → (value : NameExpr) (k : Kind) (e : Expr) → IsOfKind names value k → expr_found (expr_checked names value) ≡ Some e → (kind_in scope e ≡ Some k) × All (IsKnown scope) (reads_of e)
 expr_fits names scope agrees value k e of_kind made =
     let here = found (check_tree names (expr_tree value)) e made in
     let same = inside (e, here.kind) (of_kind.0, k) (sym here.is ∙ of_kind.1) in
@@ -67,58 +71,60 @@ expr_fits names scope agrees value k e of_kind made =
 
 -- ---- statements
 
-pub record EdgeMade (m : Metamodel) (nodes : List PatternNode) (part : BlockId) (s : Statement) (edge : PatternEdge) : Type 0 where
+pub record EdgeMade (m : Metamodel) (ds : List DeclaredNode) (part : BlockId) (s : Statement) (edge : PatternEdge) : Type 0 where
   pub mark : WrittenMark
   pub source : Name
   pub target : Name
   pub reference : Name
   pub is : s ≡ Edge part mark source target reference
-  pub whole : edge_meant m nodes (mark_meant mark) source.text target.text reference.text ≡ edge
+  pub whole : edge_meant m ds (mark_meant mark) source.text target.text reference.text ≡ edge
 
-pub edge_made : (m : Metamodel) (nodes : List PatternNode) (part : BlockId) (s : Statement) (edge : PatternEdge) → edge_in m nodes part s ≡ Some edge → EdgeMade m nodes part s edge
-edge_made m nodes part (Edge home mark source target reference) edge e =
-    let here = tested (same_block part home) (Some (edge_meant m nodes (mark_meant mark) source.text target.text reference.text)) edge e in
+pub edge_made : (m : Metamodel) (ds : List DeclaredNode) (part : BlockId) (s : Statement) (edge : PatternEdge) → edge_of m ds part s ≡ Some edge → EdgeMade m ds part s edge
+edge_made m ds part (Edge home mark source target reference) edge e =
+    let here = tested (same_block part home) (Some (edge_meant m ds (mark_meant mark) source.text target.text reference.text)) edge e in
     record { mark = mark; source = source; target = target; reference = reference; is = ap (λ h. Edge h mark source target reference) (sym (homes_same part home here.0)); whole = same_Some _ edge here.1 }
-edge_made m nodes part (Set home node attribute value) edge e = absurd (none-some edge e)
-edge_made m nodes part (Where home word test) edge e = absurd (none-some edge e)
+edge_made m ds part (Set home node attribute value) edge e = absurd (none-some edge e)
+edge_made m ds part (Where home word test) edge e = absurd (none-some edge e)
 
 pub record WhereMade (names : Names) (part : BlockId) (s : Statement) (e : Expr) : Type 0 where
   pub word : Span
   pub test : NameExpr
   pub is : s ≡ Where part word test
-  pub expr : expr_meant names test ≡ Some e
+  pub expr : expr_found (expr_checked names test) ≡ Some e
 
-pub where_made : (names : Names) (part : BlockId) (s : Statement) (e : Expr) → where_in names part s ≡ Some e → WhereMade names part s e
-where_made names part (Edge home mark source target reference) e h = absurd (none-some e h)
-where_made names part (Set home node attribute value) e h = absurd (none-some e h)
-where_made names part (Where home word test) e h =
-    let here = tested (same_block part home) (expr_meant names test) e h in
-    record { word = word; test = test; is = ap (λ p. Where p word test) (sym (homes_same part home here.0)); expr = here.1 }
+pub where_made : (m : Metamodel) (params : List DataParam) (ds : List DeclaredNode) (part : BlockId) (s : Statement) (e : Expr) → where_of part (statement_expr m params ds s) s ≡ Some e → WhereMade (rule_scope m params ds part) part s e
+where_made m params ds part (Edge home mark source target reference) e h = absurd (none-some e h)
+where_made m params ds part (Set home node attribute value) e h = absurd (none-some e h)
+where_made m params ds part (Where home word test) e h =
+    let here = tested (same_block part home) (expr_found (expr_checked (rule_scope m params ds home) test)) e h in
+    let same = homes_same part home here.0 in
+    record { word = word; test = test; is = ap (λ p. Where p word test) (sym same); expr = ap (λ p. expr_found (expr_checked (rule_scope m params ds p) test)) same ∙ here.1 }
 
-pub record SetMade (m : Metamodel) (names : Names) (nodes : List PatternNode) (part : BlockId) (s : Statement) (item : SetItem) : Type 0 where
+pub record SetMade (m : Metamodel) (names : Names) (ds : List DeclaredNode) (part : BlockId) (s : Statement) (item : SetItem) : Type 0 where
   pub node : Name
   pub attribute : Name
   pub value : NameExpr
   pub e : Expr
   pub is : s ≡ Set part node attribute value
-  pub expr : expr_meant names value ≡ Some e
-  pub whole : set_meant m nodes node.text attribute.text e ≡ item
+  pub expr : expr_found (expr_checked names value) ≡ Some e
+  pub whole : set_meant m ds node.text attribute.text e ≡ item
 
-pub set_made : (m : Metamodel) (names : Names) (nodes : List PatternNode) (part : BlockId) (s : Statement) (item : SetItem) → set_in m names nodes part s ≡ Some item → SetMade m names nodes part s item
-set_made m names nodes part (Edge home mark source target reference) item h = absurd (none-some item h)
-set_made m names nodes part (Set home node attribute value) item h =
-    let here = tested (same_block part home) (option_map (set_meant m nodes node.text attribute.text) (expr_meant names value)) item h in
-    let e = option_map-some (set_meant m nodes node.text attribute.text) (expr_meant names value) item here.1 in
-    record { node = node; attribute = attribute; value = value; e = e.0; is = ap (λ p. Set p node attribute value) (sym (homes_same part home here.0)); expr = e.1; whole = e.2 }
-set_made m names nodes part (Where home word test) item h = absurd (none-some item h)
+pub set_made : (m : Metamodel) (params : List DataParam) (ds : List DeclaredNode) (part : BlockId) (s : Statement) (item : SetItem) → set_of m ds part (statement_expr m params ds s) s ≡ Some item → SetMade m (rule_scope m params ds part) ds part s item
+set_made m params ds part (Edge home mark source target reference) item h = absurd (none-some item h)
+set_made m params ds part (Set home node attribute value) item h =
+    let here = tested (same_block part home) (option_map (set_meant m ds node.text attribute.text) (expr_found (expr_checked (rule_scope m params ds home) value))) item h in
+    let same = homes_same part home here.0 in
+    let e = option_map-some (set_meant m ds node.text attribute.text) (expr_found (expr_checked (rule_scope m params ds home) value)) item here.1 in
+    record { node = node; attribute = attribute; value = value; e = e.0; is = ap (λ p. Set p node attribute value) (sym same); expr = ap (λ p. expr_found (expr_checked (rule_scope m params ds p) value)) same ∙ e.1; whole = e.2 }
+set_made m params ds part (Where home word test) item h = absurd (none-some item h)
 
 -- ---- names
 
 -- The attribute that a name means at a node.
-pub record AttributeSpot (m : Metamodel) (nodes : List PatternNode) (name attribute : List ℕ) (d : DeclaredNode) (a : ℕ × Kind) : Type 0 where
+pub record AttributeSpot (m : Metamodel) (ds : List DeclaredNode) (name attribute : List ℕ) (d : DeclaredNode) (a : ℕ × Kind) : Type 0 where
   pub named : feature_named m (class_meant m d.class.text) attribute ≡ Some a.0
   pub kind_is : option_map kind_of_type (type_of m a.0) ≡ Some a.1
-  pub number_is : feature_number m nodes (node_number nodes name) attribute ≡ a.0
+  pub number_is : feature_number m ds name attribute ≡ a.0
 
 -- A feature that is an attribute, by its number and its kind.
 pub attribute_is : (m : Metamodel) (f : ℕ) (a : ℕ × Kind) → as_attribute m f ≡ Some a → (f ≡ a.0) × (option_map kind_of_type (type_of m a.0) ≡ Some a.1)
@@ -139,23 +145,19 @@ has_attribute m class name a named kind = has-kept (λ f. is_some (type_of m f))
     go None e = absurd (none-some a.1 e)
     go (Some type) e = refl
 
-pub attribute_spot : (m : Metamodel) (nodes : List PatternNode) (name attribute : List ℕ) (d : DeclaredNode) (a : ℕ × Kind) → Spot m nodes name d → attribute_of m d attribute ≡ Some a → AttributeSpot m nodes name attribute d a
-attribute_spot m nodes name attribute d a s e =
+pub attribute_spot : (m : Metamodel) (ds : List DeclaredNode) (nodes : List PatternNode) (name attribute : List ℕ) (d : DeclaredNode) (a : ℕ × Kind) → Spot m ds nodes name d → attribute_of m d attribute ≡ Some a → AttributeSpot m ds name attribute d a
+attribute_spot m ds nodes name attribute d a s e =
     let class : ℕ = class_meant m d.class.text in
     let f = came (feature_named m class attribute) (as_attribute m) a (by_class m d (λ c. class_attribute m c attribute) class a s.class e) in
     let is = attribute_is m f.0 a f.2 in
-    record {
-      named = f.1 ∙ ap (λ (n : ℕ). Some n) is.0;
-      kind_is = is.1;
-      number_is = ap (λ (o : Option ℕ). unwrap_or o 0) (feature_at_spot m nodes (node_number nodes name) attribute (node_meant m d) f.0 (node_at_spot m nodes name d s) f.1) ∙ is.0;
-    }
+    record { named = f.1 ∙ ap (λ (n : ℕ). Some n) is.0; kind_is = is.1; number_is = feature_at_spot m ds nodes name attribute d f.0 s f.1 ∙ is.0 }
 
 -- Names of one number are the same.
-pub nodes_same : (m : Metamodel) (nodes : List PatternNode) (a b : List ℕ) (d e : DeclaredNode) → Spot m nodes a d → Spot m nodes b e → node_number nodes a ≡ node_number nodes b → a ≡ b
-nodes_same m nodes a b d e s t same =
-    let at : slice_get nodes (position_or_len (called b) nodes) ≡ Some (node_meant m d) =
-    ap (slice_get nodes) (sym (ap (λ (o : Option ℕ). unwrap_or o 0) t.number_is) ∙ sym same ∙ ap (λ (o : Option ℕ). unwrap_or o 0) s.number_is) ∙ s.at in
-    text_same a d.name.text (spot_called nodes a (node_meant m d) s.at) ∙ sym (text_same b d.name.text (spot_called nodes b (node_meant m d) at))
+pub nodes_same : (m : Metamodel) (ds : List DeclaredNode) (nodes : List PatternNode) (a b : List ℕ) (d e : DeclaredNode) → Spot m ds nodes a d → Spot m ds nodes b e → node_number ds a ≡ node_number ds b → a ≡ b
+nodes_same m ds nodes a b d e s t same =
+    let number : d.number ≡ e.number = sym (number_at_spot m ds nodes a d s) ∙ same ∙ number_at_spot m ds nodes b e t in
+    let meant : node_meant m d ≡ node_meant m e = same_Some (node_meant m d) (node_meant m e) (sym s.at ∙ ap (slice_get nodes) number ∙ t.at) in
+    text_same a d.name.text (spot_called m ds nodes a d s) ∙ ap (λ (node : PatternNode). node.name) meant ∙ sym (text_same b e.name.text (spot_called m ds nodes b e t))
 
 pub features_same : (m : Metamodel) (c c' f : ℕ) (a b : List ℕ) → feature_named m c a ≡ Some f → feature_named m c' b ≡ Some f → a ≡ b
 features_same m c c' f a b e h = go (feature_at m f) (find_here (is_named m a) (features_of m c) f e).2 (find_here (is_named m b) (features_of m c') f h).2

@@ -11,16 +11,11 @@ use Rattle.hs_expr.specs.Lists.{Differ, same_text}
 use Rattle.hs_faults.specs.declared.nodes.DeclaredNode.{DeclaredNode}
 use Rattle.hs_faults.specs.declared.nodes.BlockId.{BlockId}
 use Rattle.hs_faults.specs.Declarations.{is_again}
-use Rattle.hs_faults.specs.Named.{first_named}
 use Rattle.hs_faults.specs.Names.{node_named}
 use Rattle.hs_faults.specs.StatementFaults.{is_visible, visible_node}
 use Rattle.hs_check.specs.Parameters.{param_meant, params_meant}
-use Rattle.hs_check.proofs.Filters.{EachPair-from, EachPair-map, find_here, find_some}
-use Rattle.hs_expr.proofs.Items.{same_text-from, slice_get-take, text_same}
-
--- Two texts that pass one test are the same.
-texts_same : (a b name : List ℕ) → same_text name a ≡ true → same_text name b ≡ true → a ≡ b
-texts_same a b name e f = sym (text_same name a e) ∙ text_same name b f
+use Rattle.hs_check.proofs.Filters.{EachPair-from, EachPair-map, find_some}
+use Rattle.hs_expr.proofs.Items.{same_text-from, slice_get-take}
 
 -- Each item has a name that none before it has.
 abbrev pub HaveOwn : {T : Type 0} → (T → Name) → List T → Type 0
@@ -38,13 +33,6 @@ one_place name_of xs h i j x y at_i at_j same = elim (cases_order i j) [
   | inr (inl low) ↦ absurd (names_apart name_of xs h i j x y low at_i at_j same)
   | inr (inr high) ↦ absurd (names_apart name_of xs h j i y x high at_j at_i (sym same))
 ]
-
--- The item that a name finds is the only one of this name.
-pub only_one : {T : Type 0} (name_of : T → Name) (xs : List T) → HaveOwn name_of xs → (name : List ℕ) (x y : T) (k : ℕ) → first_named name_of xs name ≡ Some x → slice_get xs k ≡ Some y → same_text name (name_of y).text ≡ true → x ≡ y
-only_one {T} name_of xs h name x y k found at called =
-    let here = find_here (λ (item : T). same_text name (name_of item).text) xs x found in
-    let place = one_place name_of xs h here.0 k x y here.1 at (texts_same (name_of x).text (name_of y).text name here.2 called) in
-    same_Some x y (sym here.1 ∙ ap (slice_get xs) place ∙ at)
 
 -- Parameters with names of their own have names that differ.
 pub params_apart : (m : Metamodel) (params : List WrittenParam) → HaveOwn (λ (p : WrittenParam). p.name) params → Differ (map (λ param. param.name) (params_meant m params))

@@ -1,11 +1,11 @@
 -- The nodes that a part of a rule may name, by their numbers there.
-use Rattle.std.proofs.Common.{ℕ, zero, suc, map, take, ◌+◌, ◌∷◌, if◌then◌else◌, zero-add, ◌<◌, ◌≤◌, ◌≡◌, ◌⊎◌, ◌++◌, List, [], Bool, true, false, cond, nat_lt, length, slice_get, Option, Some, None, refl, ap, sym, ◌∙◌, inl, inr, arith}
-use Rattle.std.proofs.lemmas.Bool.{eqb-true, cases_Bool, cond-true, false≢true, lt-ltb, or_cases}
-use Rattle.std.proofs.lemmas.List.Folds.{find-append, find_at}
+use Rattle.std.proofs.Common.{ℕ, zero, suc, map, take, ◌+◌, ◌∷◌, if◌then◌else◌, zero-add, ◌<◌, ◌≤◌, ◌≡◌, ◌++◌, List, [], Bool, true, false, cond, nat_lt, length, slice_get, Option, Some, None, refl, ap, sym, ◌∙◌, inl, inr, arith, length-append}
+use Rattle.std.proofs.lemmas.Bool.{eqb-true, cond-true, false≢true, lt-ltb, or_cases}
+use Rattle.std.proofs.lemmas.List.Folds.{find_at}
 use Rattle.std.proofs.lemmas.List.{length-map}
 use Rattle.std.proofs.lemmas.Option.{none-some, same_Some, slice_get_within}
 use Rattle.std.specs.List.{filter, filter_map, find, position, position_or_len}
-use Rattle.std.specs.Option.{option_and_then, option_or}
+use Rattle.std.specs.Option.{option_and_then}
 use Rattle.hs_types.specs.declared.meta.Metamodel.{Metamodel}
 use Rattle.hs_types.specs.declared.rule.PatternNode.{PatternNode}
 use Rattle.hs_expr.specs.Lists.{same_text}
@@ -15,12 +15,11 @@ use Rattle.hs_faults.specs.declared.nodes.BlockId.TheVariants as home
 use Rattle.hs_faults.specs.Names.{class_number, node_named, as_number}
 use Rattle.hs_faults.specs.Numbers.{count_in, first_number, number_of_node, number_at}
 use Rattle.hs_faults.specs.ParamNodes.{is_kernel}
-use Rattle.hs_faults.specs.StatementFaults.{visible_node, same_block}
-use Rattle.hs_check.specs.Elements.{node_found, node_meant, nodes_in}
+use Rattle.hs_faults.specs.StatementFaults.{node_class, visible_node, same_block}
+use Rattle.hs_check.specs.Elements.{node_meant, nodes_in}
 use Rattle.hs_check.specs.Parameters.{class_meant}
-use Rattle.hs_check.proofs.Uniqueness.{HaveOwn, only_one, opened}
-use Rattle.hs_check.proofs.Filters.{All-filter_map, filtered, find-filter_map, find_here, found_behind, passes, slice_get-rest, where_passes}
-use Rattle.hs_expr.proofs.Items.{find_none}
+use Rattle.hs_check.proofs.Uniqueness.{opened}
+use Rattle.hs_check.proofs.Filters.{filtered, find-filter_map, find_here, passes, slice_get-rest, where_passes}
 use Rattle.hs_expr.proofs.Lists.{slice_get-first}
 
 -- The test that a node of a pattern has this name.
@@ -51,20 +50,6 @@ found_in m ds part name d found here =
     ∙ find-filter_map (λ (node : DeclaredNode). same_text name node.name.text) (called name) (node_in m part) ds d (node_meant m d) (called_same m part name) found
     (passing (same_block part d.block) (node_meant m d) here)
 
--- A node is not found in another part.
-not_in : (m : Metamodel) (ds : List DeclaredNode) → HaveOwn (λ (node : DeclaredNode). node.name) ds → (part : BlockId) (name : List ℕ) (d : DeclaredNode) → node_named ds name ≡ Some d → same_block part d.block ≡ false → find (called name) (nodes_in m ds part) ≡ None
-not_in m ds own part name d found away =
-    ap (find (called name)) (nodes_in-picked m ds part)
-    ∙ find_none (called name) (filter_map (node_in m part) ds) (All-filter_map (λ (p : PatternNode). called name p ≡ false) (node_in m part) ds fails)
-  where
-    fails : (k : ℕ) (e : DeclaredNode) (p : PatternNode) → slice_get ds k ≡ Some e → node_in m part e ≡ Some p → called name p ≡ false
-    fails k e p at made = elim (cases_Bool (called name p)) [
-      | inl yes_it ↦
-          let same = only_one (λ (node : DeclaredNode). node.name) ds own name d e k found at (sym (called_same m part name e p made) ∙ yes_it) in
-          absurd (false≢true (sym away ∙ ap (λ (n : DeclaredNode). same_block part n.block) same ∙ (node_made m part e p made).0))
-      | inr not_it ↦ not_it
-    ]
-
 -- ---- numbers
 
 pub position_there : {A : Type 0} (p : A → Bool) (xs : List A) → position_or_len p xs < length xs → position p xs ≡ Some (position_or_len p xs)
@@ -85,23 +70,24 @@ abbrev pub AllClassed : Metamodel → List DeclaredNode → Type 0
 AllClassed m ds = (k : ℕ) (d : DeclaredNode) → slice_get ds k ≡ Some d → class_number m d.class.text ≡ Some (class_meant m d.class.text)
 
 -- The node that a name finds, by its number among these.
-pub record Spot (m : Metamodel) (nodes : List PatternNode) (name : List ℕ) (d : DeclaredNode) : Type 0 where
-  pub number_is : node_found nodes name ≡ Some (position_or_len (called name) nodes)
-  pub at : slice_get nodes (position_or_len (called name) nodes) ≡ Some (node_meant m d)
-  pub class : class_number m d.class.text ≡ Some (class_meant m d.class.text)
+pub record Spot (m : Metamodel) (ds : List DeclaredNode) (nodes : List PatternNode) (name : List ℕ) (d : DeclaredNode) : Type 0 where
+  pub named : node_named ds name ≡ Some d
+  pub at : slice_get nodes d.number ≡ Some (node_meant m d)
+  pub class : node_class m d ≡ Some (class_meant m d.class.text)
 
--- Each node that this part may name is found among its nodes, which follow these, and its own are not among these.
+-- Each node that this part may name is at its number among its nodes, which follow these; its own
+-- are not among these.
 pub record Opens (m : Metamodel) (ds : List DeclaredNode) (part : BlockId) (before : List PatternNode) : Type 0 where
-  pub found : (name : List ℕ) (d : DeclaredNode) → visible_node ds part name ≡ Some d → Spot m (before ++ nodes_in m ds part) name d
-  pub own : (name : List ℕ) (d : DeclaredNode) → visible_node ds part name ≡ Some d → same_block part d.block ≡ true → length before ≤ position_or_len (called name) (before ++ nodes_in m ds part)
-  pub numbered : (name : List ℕ) (d : DeclaredNode) → visible_node ds part name ≡ Some d → slice_get (before ++ nodes_in m ds part) d.number ≡ Some (node_meant m d)
+  pub found : (name : List ℕ) (d : DeclaredNode) → visible_node ds part name ≡ Some d → Spot m ds (before ++ nodes_in m ds part) name d
+  pub own : (name : List ℕ) (d : DeclaredNode) → visible_node ds part name ≡ Some d → same_block part d.block ≡ true → length before ≤ d.number
 
 pub kernel_home : (h : BlockId) → same_block home.Kernel h ≡ is_kernel h
 kernel_home home.Kernel = refl
 kernel_home (home.Pattern i) = refl
 kernel_home (home.Multi i) = refl
 
--- The node's number is that of its place among the nodes of its part, which come after the kernel's.
+-- The node's number is that of its place among the nodes of its part, which come after the
+-- kernel's.
 abbrev pub AreNumbered : List DeclaredNode → Type 0
 AreNumbered ds = (k : ℕ) (d : DeclaredNode) → slice_get ds k ≡ Some d → d.number ≡ number_of_node ds (take k ds) d
 
@@ -120,26 +106,16 @@ counted_at {A} {B} p f (y ∷ xs) (suc k) x at e = go (p y) (counted_at p f xs k
     go true rest = rest
     go false rest = rest
 
--- A node is at its number.
-number_here : {A : Type 0} (nodes : List A) (x : A) (place number : ℕ) → length nodes ≤ 65536 → slice_get nodes place ≡ Some x → number ≡ number_at place → slice_get nodes number ≡ Some x
-number_here nodes x place number few at is =
+-- The number of a node's place is the place, where there are few nodes.
+place_is : {A : Type 0} (nodes : List A) (x : A) (place number : ℕ) → length nodes ≤ 65536 → slice_get nodes place ≡ Some x → number ≡ number_at place → number ≡ place
+place_is nodes x place number few at is =
     let low = slice_get_within nodes place x at in
-    let same : number ≡ place = omega arith in
-    ap (slice_get nodes) same ∙ at
+    omega arith
 
 kernel_is : (h : BlockId) → is_kernel h ≡ true → h ≡ home.Kernel
 kernel_is home.Kernel e = refl
 kernel_is (home.Pattern i) e = absurd (false≢true e)
 kernel_is (home.Multi i) e = absurd (false≢true e)
-
--- Nodes of the kernel have their places there for numbers.
-kernel_number : (m : Metamodel) (ds : List DeclaredNode) → AreNumbered ds → (k : ℕ) (d : DeclaredNode) → slice_get ds k ≡ Some d → is_kernel d.block ≡ true →
-    (place : ℕ) × (slice_get (nodes_in m ds home.Kernel) place ≡ Some (node_meant m d)) × (d.number ≡ number_at place)
-kernel_number m ds numbered k d at kernel = (
-  count_in (take k ds) home.Kernel,
-  counted_at (λ (node : DeclaredNode). same_block home.Kernel node.block) (node_meant m) ds k d at (kernel_home d.block ∙ kernel),
-  numbered k d at ∙ ap (λ (h : BlockId). number_at (first_number ds h + count_in (take k ds) h)) (kernel_is d.block kernel) ∙ ap number_at (zero-add (count_in (take k ds) home.Kernel)),
-)
 
 pub homes_same : (g h : BlockId) → same_block g h ≡ true → g ≡ h
 homes_same home.Kernel home.Kernel e = refl
@@ -152,75 +128,63 @@ homes_same (home.Multi i) home.Kernel e = cc
 homes_same (home.Multi i) (home.Pattern j) e = cc
 homes_same (home.Multi i) (home.Multi j) e = ap home.Multi (eqb-true i j e)
 
-homes_alike : (g h : BlockId) → same_block g h ≡ true → is_kernel h ≡ is_kernel g
-homes_alike g h e = ap is_kernel (sym (homes_same g h e))
+-- A node of the kernel is there at its number.
+kernel_at : (m : Metamodel) (ds : List DeclaredNode) → AreNumbered ds → length (nodes_in m ds home.Kernel) ≤ 65536 → (k : ℕ) (d : DeclaredNode) → slice_get ds k ≡ Some d → is_kernel d.block ≡ true → slice_get (nodes_in m ds home.Kernel) d.number ≡ Some (node_meant m d)
+kernel_at m ds numbered few k d at kernel =
+    let nodes = nodes_in m ds home.Kernel in
+    let place : ℕ = count_in (take k ds) home.Kernel in
+    let there = counted_at (λ (node : DeclaredNode). same_block home.Kernel node.block) (node_meant m) ds k d at (kernel_home d.block ∙ kernel) in
+    let number : d.number ≡ number_at place = numbered k d at ∙ ap (λ (h : BlockId). number_at (first_number ds h + count_in (take k ds) h)) (kernel_is d.block kernel) ∙ ap number_at (zero-add place) in
+    ap (slice_get nodes) (place_is nodes (node_meant m d) place d.number few there number) ∙ there
 
-spot : (m : Metamodel) (ds : List DeclaredNode) → AllClassed m ds → (nodes : List PatternNode) → length nodes ≤ 65536 → (name : List ℕ) (d : DeclaredNode) → node_named ds name ≡ Some d → find (called name) nodes ≡ Some (node_meant m d) → Spot m nodes name d
-spot m ds all nodes few name d named found =
-    let here = find_here (λ (node : DeclaredNode). same_text name node.name.text) ds d named in
-    let there = place_there (called name) nodes (node_meant m d) few found in
-    record { number_is = there.0; at = there.1; class = all here.0 d here.1 }
+-- A node of a block is at its number behind the kernel's.
+block_at : (m : Metamodel) (ds : List DeclaredNode) → AreNumbered ds → (part : BlockId) → is_kernel part ≡ false → length (nodes_in m ds home.Kernel ++ nodes_in m ds part) ≤ 65536 → (k : ℕ) (d : DeclaredNode) → slice_get ds k ≡ Some d → same_block part d.block ≡ true →
+    (slice_get (nodes_in m ds home.Kernel ++ nodes_in m ds part) d.number ≡ Some (node_meant m d)) × (length (nodes_in m ds home.Kernel) ≤ d.number)
+block_at m ds numbered part block few k d at own =
+    let kernel = nodes_in m ds home.Kernel in
+    let nodes = kernel ++ nodes_in m ds part in
+    let place : ℕ = count_in (take k ds) part in
+    let many : length kernel ≡ count_in ds home.Kernel = length-map (filter (λ (node : DeclaredNode). same_block home.Kernel node.block) ds) (node_meant m) in
+    let there = slice_get-rest kernel (nodes_in m ds part) place (length kernel + place) refl ∙ counted_at (λ (node : DeclaredNode). same_block part node.block) (node_meant m) ds k d at own in
+    let number : d.number ≡ number_at (length kernel + place) = numbered k d at ∙ ap (λ (h : BlockId). number_at (first_number ds h + count_in (take k ds) h)) (sym (homes_same part d.block own))
+    ∙ ap (λ (b : Bool). number_at ((if b then 0 else count_in ds home.Kernel) + place)) block ∙ ap (λ n. number_at (n + place)) (sym many) in
+    let same = place_is nodes (node_meant m d) (length kernel + place) d.number few there number in
+    (ap (slice_get nodes) same ∙ there, omega arith)
 
 pub opens_kernel : (m : Metamodel) (ds : List DeclaredNode) → AllClassed m ds → AreNumbered ds → length (nodes_in m ds home.Kernel) ≤ 65536 → Opens m ds home.Kernel []
-opens_kernel m ds all numbered few = record { found = there; own = λ name d e here. omega arith; numbered = at }
+opens_kernel m ds all numbered few = record { found = there; own = λ name d e here. omega arith }
   where
-    inside : (name : List ℕ) (d : DeclaredNode) → visible_node ds home.Kernel name ≡ Some d → same_block home.Kernel d.block ≡ true
-    inside name d e = elim (or_cases (is_kernel d.block) (same_block home.Kernel d.block) (opened ds home.Kernel name d e).1) [
-      | inl kernel ↦ kernel_home d.block ∙ kernel
-      | inr same ↦ same
-    ]
-
-    there : (name : List ℕ) (d : DeclaredNode) → visible_node ds home.Kernel name ≡ Some d → Spot m (nodes_in m ds home.Kernel) name d
+    there : (name : List ℕ) (d : DeclaredNode) → visible_node ds home.Kernel name ≡ Some d → Spot m ds (nodes_in m ds home.Kernel) name d
     there name d e =
         let is = opened ds home.Kernel name d e in
-        spot m ds all (nodes_in m ds home.Kernel) few name d is.0 (found_in m ds home.Kernel name d is.0 (inside name d e))
+        let here = find_here (λ (node : DeclaredNode). same_text name node.name.text) ds d is.0 in
+        let kernel : is_kernel d.block ≡ true = elim (or_cases (is_kernel d.block) (same_block home.Kernel d.block) is.1) [ inl kernel ↦ kernel | inr same ↦ sym (kernel_home d.block) ∙ same ] in
+        record { named = is.0; at = kernel_at m ds numbered few here.0 d here.1 kernel; class = all here.0 d here.1 }
 
-    at : (name : List ℕ) (d : DeclaredNode) → visible_node ds home.Kernel name ≡ Some d → slice_get (nodes_in m ds home.Kernel) d.number ≡ Some (node_meant m d)
-    at name d e =
-        let here = find_here (λ (node : DeclaredNode). same_text name node.name.text) ds d (opened ds home.Kernel name d e).0 in
-        let number = kernel_number m ds numbered here.0 d here.1 (sym (kernel_home d.block) ∙ inside name d e) in
-        number_here (nodes_in m ds home.Kernel) (node_meant m d) number.0 d.number few number.1 number.2
-
-pub opens_block : (m : Metamodel) (ds : List DeclaredNode) → HaveOwn (λ (node : DeclaredNode). node.name) ds → AllClassed m ds → AreNumbered ds → (part : BlockId) → is_kernel part ≡ false → length (nodes_in m ds home.Kernel ++ nodes_in m ds part) ≤ 65536 → Opens m ds part (nodes_in m ds home.Kernel)
-opens_block m ds own all numbered part block few = record { found = there; numbered = at; own = λ name d e here. found_behind (called name) (nodes_in m ds home.Kernel) (nodes_in m ds part) (not_in m ds own home.Kernel name d (opened ds part name d e).0 (away d here)) }
+pub opens_block : (m : Metamodel) (ds : List DeclaredNode) → AllClassed m ds → AreNumbered ds → (part : BlockId) → is_kernel part ≡ false → length (nodes_in m ds home.Kernel ++ nodes_in m ds part) ≤ 65536 → Opens m ds part (nodes_in m ds home.Kernel)
+opens_block m ds all numbered part block few = record { found = there; own = behind }
   where
-    away : (d : DeclaredNode) → same_block part d.block ≡ true → same_block home.Kernel d.block ≡ false
-    away d here = kernel_home d.block ∙ homes_alike part d.block here ∙ block
+    place_of : (name : List ℕ) (d : DeclaredNode) → visible_node ds part name ≡ Some d → (k : ℕ) × (slice_get ds k ≡ Some d)
+    place_of name d e = let here = find_here (λ (node : DeclaredNode). same_text name node.name.text) ds d (opened ds part name d e).0 in (here.0, here.1)
 
-    joined : (name : List ℕ) (d : DeclaredNode) → node_named ds name ≡ Some d → (is_kernel d.block ≡ true) ⊎ (same_block part d.block ≡ true) → find (called name) (nodes_in m ds home.Kernel ++ nodes_in m ds part) ≡ Some (node_meant m d)
-    joined name d named (inl kernel) =
-        find-append (called name) (nodes_in m ds home.Kernel) (nodes_in m ds part)
-        ∙ ap (λ (o : Option PatternNode). option_or o (find (called name) (nodes_in m ds part))) (found_in m ds home.Kernel name d named (kernel_home d.block ∙ kernel))
-    joined name d named (inr here) =
-        find-append (called name) (nodes_in m ds home.Kernel) (nodes_in m ds part)
-        ∙ ap (λ (o : Option PatternNode). option_or o (find (called name) (nodes_in m ds part))) (not_in m ds own home.Kernel name d named (away d here))
-        ∙ found_in m ds part name d named here
+    behind : (name : List ℕ) (d : DeclaredNode) → visible_node ds part name ≡ Some d → same_block part d.block ≡ true → length (nodes_in m ds home.Kernel) ≤ d.number
+    behind name d e own = let here = place_of name d e in (block_at m ds numbered part block few here.0 d here.1 own).1
 
-    there : (name : List ℕ) (d : DeclaredNode) → visible_node ds part name ≡ Some d → Spot m (nodes_in m ds home.Kernel ++ nodes_in m ds part) name d
+    there : (name : List ℕ) (d : DeclaredNode) → visible_node ds part name ≡ Some d → Spot m ds (nodes_in m ds home.Kernel ++ nodes_in m ds part) name d
     there name d e =
         let is = opened ds part name d e in
-        spot m ds all (nodes_in m ds home.Kernel ++ nodes_in m ds part) few name d is.0 (joined name d is.0 (or_cases (is_kernel d.block) (same_block part d.block) is.1))
+        let here = place_of name d e in
+        record {
+          named = is.0;
+          class = all here.0 d here.1;
+          at = elim (or_cases (is_kernel d.block) (same_block part d.block) is.1) [
+            | inl in_kernel ↦
+                let first = kernel_at m ds numbered (let long = length-append (nodes_in m ds home.Kernel) (nodes_in m ds part) in omega arith) here.0 d here.1 in_kernel in
+                slice_get-first (nodes_in m ds home.Kernel) (nodes_in m ds part) d.number (slice_get_within (nodes_in m ds home.Kernel) d.number (node_meant m d) first) ∙ first
+            | inr of_part ↦ (block_at m ds numbered part block few here.0 d here.1 of_part).0
+          ];
+        }
 
-    at : (name : List ℕ) (d : DeclaredNode) → visible_node ds part name ≡ Some d → slice_get (nodes_in m ds home.Kernel ++ nodes_in m ds part) d.number ≡ Some (node_meant m d)
-    at name d e =
-        let is = opened ds part name d e in
-        let here = find_here (λ (node : DeclaredNode). same_text name node.name.text) ds d is.0 in
-        let kernel = nodes_in m ds home.Kernel in
-        elim (or_cases (is_kernel d.block) (same_block part d.block) is.1) [
-          | inl in_kernel ↦
-              let number = kernel_number m ds numbered here.0 d here.1 in_kernel in
-              number_here (kernel ++ nodes_in m ds part) (node_meant m d) number.0 d.number few
-              (slice_get-first kernel (nodes_in m ds part) number.0 (slice_get_within kernel number.0 (node_meant m d) number.1) ∙ number.1) number.2
-          | inr of_part ↦
-              let place : ℕ = count_in (take here.0 ds) part in
-              let one : d.block ≡ part = sym (homes_same part d.block of_part) in
-              let many : length kernel ≡ count_in ds home.Kernel = length-map (filter (λ (node : DeclaredNode). same_block home.Kernel node.block) ds) (node_meant m) in
-              number_here (kernel ++ nodes_in m ds part) (node_meant m d) (length kernel + place) d.number few
-              (slice_get-rest kernel (nodes_in m ds part) place (length kernel + place) refl ∙ counted_at (λ (node : DeclaredNode). same_block part node.block) (node_meant m) ds here.0 d here.1 of_part)
-              (numbered here.0 d here.1 ∙ ap (λ (h : BlockId). number_at (first_number ds h + count_in (take here.0 ds) h)) one
-              ∙ ap (λ (b : Bool). number_at ((if b then 0 else count_in ds home.Kernel) + place)) block ∙ ap (λ n. number_at (n + place)) (sym many))
-        ]
-
--- What is at the number of a name has the name.
-pub spot_called : (nodes : List PatternNode) (name : List ℕ) (p : PatternNode) → slice_get nodes (position_or_len (called name) nodes) ≡ Some p → called name p ≡ true
-spot_called nodes name p at = (find_here (called name) nodes p (find_at (called name) nodes ∙ at)).2
+-- What a name finds has the name.
+pub spot_called : (m : Metamodel) (ds : List DeclaredNode) (nodes : List PatternNode) (name : List ℕ) (d : DeclaredNode) → Spot m ds nodes name d → same_text name d.name.text ≡ true
+spot_called m ds nodes name d s = (find_here (λ (node : DeclaredNode). same_text name node.name.text) ds d s.named).2

@@ -1,18 +1,18 @@
 -- What nodes and edges mean, part by part of a rule.
-use Rattle.std.specs.Prelude.{ℕ, List, map, Option, Some, None, if◌then◌else◌, slice_get}
-use Rattle.std.specs.List.{filter, filter_map, position}
-use Rattle.std.specs.Option.{option_and_then, unwrap_or}
+use Rattle.std.specs.Prelude.{ℕ, List, map, Option, Some, None, if◌then◌else◌}
+use Rattle.std.specs.List.{filter, filter_map}
+use Rattle.std.specs.Option.{option_and_then, option_map_or, unwrap_or}
 use Rattle.hs_types.specs.declared.meta.Metamodel.{Metamodel}
 use Rattle.hs_types.specs.declared.rule.Mark.{Mark}
 use Rattle.hs_types.specs.declared.rule.PatternEdge.{PatternEdge}
 use Rattle.hs_types.specs.declared.rule.PatternNode.{PatternNode}
-use Rattle.hs_expr.specs.Lists.{same_text}
 use Rattle.hs_faults.specs.declared.nodes.DeclaredNode.{DeclaredNode}
 use Rattle.hs_faults.specs.declared.nodes.BlockId.{BlockId}
+use Rattle.hs_faults.specs.declared.statements.CheckedStatement.{CheckedStatement}
 use Rattle.hs_faults.specs.Marks.{mark_meant}
-use Rattle.hs_faults.specs.Names.{feature_named, as_number}
+use Rattle.hs_faults.specs.Names.{feature_named, node_named}
 use Rattle.hs_faults.specs.Statements.{Statement, Edge, Set, Where}
-use Rattle.hs_faults.specs.StatementFaults.{same_block}
+use Rattle.hs_faults.specs.StatementFaults.{node_class, same_block}
 use Rattle.hs_check.specs.Parameters.{class_meant}
 
 abbrev pub node_meant : Metamodel → DeclaredNode → PatternNode
@@ -26,40 +26,42 @@ node_meant m node = record {
 abbrev pub nodes_in : Metamodel → List DeclaredNode → BlockId → List PatternNode
 nodes_in m declared part = map (node_meant m) (filter (λ node. same_block part node.block) declared)
 
--- The number of the node of this name: its place among those that a part of the rule may name.
-abbrev pub node_found : List PatternNode → List ℕ → Option ℕ
-node_found nodes name =
-    option_and_then as_number (position (λ node. same_text name node.name) nodes)
+-- The number of the node of this name.
+abbrev pub node_number : List DeclaredNode → List ℕ → ℕ
+node_number declared name = option_map_or (λ node. node.number) (node_named declared name) 0
 
-abbrev pub node_number : List PatternNode → List ℕ → ℕ
-node_number nodes name = unwrap_or (node_found nodes name) 0
+-- The feature of this name in the class of the node.
+abbrev pub node_feature : Metamodel → List ℕ → DeclaredNode → Option ℕ
+node_feature m name node = option_and_then (λ class. feature_named m class name) (node_class m node)
 
--- The feature of this name in the class of node n.
-abbrev pub feature_found : Metamodel → List PatternNode → ℕ → List ℕ → Option ℕ
-feature_found m nodes n name =
-    option_and_then (λ node. feature_named m node.class name) (slice_get nodes n)
-
-abbrev pub feature_number : Metamodel → List PatternNode → ℕ → List ℕ → ℕ
-feature_number m nodes n name = unwrap_or (feature_found m nodes n name) 0
+-- The feature of this name in the class of the node of that name.
+abbrev pub feature_number : Metamodel → List DeclaredNode → List ℕ → List ℕ → ℕ
+feature_number m declared node name =
+    unwrap_or (option_and_then (node_feature m name) (node_named declared node)) 0
 
 -- An edge by numbers: its reference is looked for in the class of its source.
-abbrev pub edge_meant : Metamodel → List PatternNode → Mark → List ℕ → List ℕ → List ℕ → PatternEdge
-edge_meant m nodes mark source target reference = record {
-  source = node_number nodes source;
-  reference = feature_number m nodes (node_number nodes source) reference;
-  target = node_number nodes target;
+abbrev pub edge_meant : Metamodel → List DeclaredNode → Mark → List ℕ → List ℕ → List ℕ
+    → PatternEdge
+edge_meant m declared mark source target reference = record {
+  source = node_number declared source;
+  reference = feature_number m declared source reference;
+  target = node_number declared target;
   mark = mark;
 }
 
 -- The edge that a statement means, if it is an edge of this part of the rule.
-abbrev pub edge_in : Metamodel → List PatternNode → BlockId → Statement → Option PatternEdge
-edge_in m nodes part (Edge home mark source target reference) =
+abbrev pub edge_of : Metamodel → List DeclaredNode → BlockId → Statement → Option PatternEdge
+edge_of m declared part (Edge home mark source target reference) =
     if same_block part home then Some
-    (edge_meant m nodes (mark_meant mark) source.text target.text reference.text) else None
-edge_in m nodes part (Set home node attribute value) = None
-edge_in m nodes part (Where home word test) = None
+    (edge_meant m declared (mark_meant mark) source.text target.text reference.text) else None
+edge_of m declared part (Set home node attribute value) = None
+edge_of m declared part (Where home word test) = None
 
--- The edges of one part of the rule, in written order. The part may name these nodes.
-abbrev pub edges_of_part : Metamodel → List PatternNode → List Statement → BlockId
+abbrev pub edge_in : Metamodel → List DeclaredNode → BlockId → CheckedStatement
+    → Option PatternEdge
+edge_in m declared part checked = edge_of m declared part checked.statement
+
+-- The edges of one part of the rule, in written order. The rule declares these nodes.
+abbrev pub edges_of_part : Metamodel → List DeclaredNode → List CheckedStatement → BlockId
     → List PatternEdge
-edges_of_part m nodes statements part = filter_map (edge_in m nodes part) statements
+edges_of_part m declared statements part = filter_map (edge_in m declared part) statements

@@ -1,7 +1,8 @@
 -- What statements, declarations and calls of a text name, and that it is found.
-use Rattle.std.specs.Prelude.{ℕ, ◌≡◌, ◌++◌, List, [], Bool, true, ◌&&◌, ◌||◌, is_some}
+use Rattle.std.specs.Prelude.{ℕ, ◌≡◌, ◌++◌, List, [], Bool, true, false, ◌&&◌, ◌||◌, is_some, slice_get}
 use Rattle.std.specs.List.{list_all}
-use Rattle.std.specs.Option.{option_and_then}
+use Rattle.std.specs.Option.{option_and_then, option_map_or}
+use Rattle.hs_expr.specs.Lists.{same_text}
 use Rattle.hs_text.specs.declared.syntax.Call.{Call}
 use Rattle.hs_text.specs.declared.syntax.Definition.{Definition}
 use Rattle.hs_text.specs.declared.syntax.Param.{Param}
@@ -14,10 +15,11 @@ use Rattle.hs_faults.specs.declared.nodes.BlockId.TheVariants.{Kernel, Pattern, 
 use Rattle.hs_faults.specs.declared.nodes.DeclaredNode.{DeclaredNode}
 use Rattle.hs_faults.specs.Names.{class_number}
 use Rattle.hs_faults.specs.Nodes.{declared_nodes}
+use Rattle.hs_faults.specs.StatementFaults.{visible_node}
 use Rattle.hs_faults.specs.Statements.{Statement, Edge, Set, Where, statements}
 use Rattle.hs_faults.specs.UnitFaults.{is_known_kind, rules_of, units_of, written_calls}
 use Rattle.hs_check.specs.declared.units.Callees.{Callees}
-use Rattle.hs_check.specs.Elements.{feature_found, node_found, nodes_in}
+use Rattle.hs_check.specs.Elements.{node_feature, node_number, nodes_in}
 use Rattle.hs_check.specs.Units.{callees, place_among}
 
 -- The nodes whose numbers come before the block's own.
@@ -30,18 +32,24 @@ nodes_before m declared (Multi i) = nodes_in m declared Kernel
 abbrev pub nodes_seen : Metamodel → List DeclaredNode → BlockId → List PatternNode
 nodes_seen m declared block = nodes_before m declared block ++ nodes_in m declared block
 
--- There is a node of this name, and its class has a feature of that name.
-abbrev pub finds_feature : Metamodel → List PatternNode → List ℕ → List ℕ → Bool
-finds_feature m nodes name feature =
-    is_some (option_and_then (λ n. feature_found m nodes n feature) (node_found nodes name))
+-- The node that is at the number of this name, among those that this part may name, has the name.
+abbrev pub is_placed : Metamodel → List DeclaredNode → BlockId → List ℕ → Bool
+is_placed m declared block name =
+    option_map_or (λ node. same_text name node.name)
+    (slice_get (nodes_seen m declared block) (node_number declared name)) false
 
--- The nodes of the statement are found, and its reference or attribute.
+-- This part may name a node of this name, and its class has a feature of that name.
+abbrev pub finds_feature : Metamodel → List DeclaredNode → BlockId → List ℕ → List ℕ → Bool
+finds_feature m declared block name feature =
+    is_some (option_and_then (node_feature m feature) (visible_node declared block name))
+
+-- The nodes of the statement are found, at their numbers, and its reference or attribute.
 abbrev pub statement_resolves : Metamodel → List DeclaredNode → Statement → Bool
 statement_resolves m declared (Edge block mark source target reference) =
-    finds_feature m (nodes_seen m declared block) source.text reference.text
-    && is_some (node_found (nodes_seen m declared block) target.text)
+    finds_feature m declared block source.text reference.text
+    && (is_placed m declared block source.text && is_placed m declared block target.text)
 statement_resolves m declared (Set block node attribute value) =
-    finds_feature m (nodes_seen m declared block) node.text attribute.text
+    finds_feature m declared block node.text attribute.text && is_placed m declared block node.text
 statement_resolves m declared (Where block word test) = true
 
 -- The kind of the parameter is one of data, or a class that is there.

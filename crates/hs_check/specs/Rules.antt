@@ -14,34 +14,15 @@ use Rattle.hs_types.specs.declared.rule.PatternNode.{PatternNode}
 use Rattle.hs_types.specs.declared.rule.Rule.{Rule}
 use Rattle.hs_types.specs.declared.rule.Shape.{Shape}
 use Rattle.hs_types.specs.RuleForm.{reads_in}
-use Rattle.hs_faults.specs.declared.data_parameters.DataParam.{DataParam}
-use Rattle.hs_faults.specs.declared.nodes.DeclaredNode.{DeclaredNode}
 use Rattle.hs_faults.specs.declared.nodes.BlockId.{BlockId}
 use Rattle.hs_faults.specs.declared.nodes.BlockId.TheVariants as home
-use Rattle.hs_faults.specs.Nodes.{declared_nodes}
-use Rattle.hs_faults.specs.Numbers.{data_params}
-use Rattle.hs_faults.specs.StatementFaults.{rule_scope}
-use Rattle.hs_faults.specs.Statements.{Statement, statements}
+use Rattle.hs_faults.specs.Contents.{RuleContents, rule_contents}
 use Rattle.hs_faults.specs.UnitFaults.{rules_of}
 use Rattle.hs_check.specs.declared.block.Block.{Block}
 use Rattle.hs_check.specs.Elements.{edges_of_part, nodes_in}
 use Rattle.hs_check.specs.Expressions.{sets_in, wheres_in}
 use Rattle.hs_check.specs.Parameters.{params_meant}
 use Rattle.hs_check.specs.Slots.{slots_from}
-
--- What a rule declares and says: its parameters for data, the nodes of the kernel and of all
--- blocks, and the statements about them.
-pub record RuleContents : Type 0 where
-  pub params : List DataParam
-  pub nodes : List DeclaredNode
-  pub statements : List Statement
-
-abbrev pub rule_contents : WrittenRule → RuleContents
-rule_contents rule = record {
-  params = data_params rule.params;
-  nodes = declared_nodes rule.items;
-  statements = statements rule.items;
-}
 
 -- The blocks of each sort, in written order.
 abbrev pub forbid_at : ℕ → Item → List BlockId
@@ -63,32 +44,20 @@ multi_at i (item.Require elements) = []
 multi_at i (item.Multi simples) = home.Multi i ∷ []
 
 -- A forbid or require block. The numbers of its nodes go on from the kernel's.
-abbrev pub part_with : Metamodel → RuleContents → List PatternNode → List PatternNode → BlockId
-    → Part
-part_with m contents kernel own part = record {
-  nodes = own;
-  edges = edges_of_part m (kernel ++ own) contents.statements part;
+abbrev pub part_meant : Metamodel → RuleContents → BlockId → Part
+part_meant m contents part = record {
+  nodes = nodes_in m contents.nodes part;
+  edges = edges_of_part m contents.nodes contents.statements part;
 }
 
-abbrev pub part_meant : Metamodel → RuleContents → List PatternNode → BlockId → Part
-part_meant m contents kernel part =
-    part_with m contents kernel (nodes_in m contents.nodes part) part
-
--- The block with these nodes of its own, after those that have numbers before them.
-abbrev pub block_with : Metamodel → RuleContents → List PatternNode → List PatternNode → BlockId
-    → Block
-block_with m contents before own part = record {
-  nodes = own;
-  edges = edges_of_part m (before ++ own) contents.statements part;
-  wheres = wheres_in (rule_scope m contents.params contents.nodes part) contents.statements part;
-  sets =
-      sets_in m (rule_scope m contents.params contents.nodes part) (before ++ own)
-      contents.statements part;
+-- The kernel or a multi block.
+abbrev pub block_meant : Metamodel → RuleContents → BlockId → Block
+block_meant m contents part = record {
+  nodes = nodes_in m contents.nodes part;
+  edges = edges_of_part m contents.nodes contents.statements part;
+  wheres = wheres_in contents.statements part;
+  sets = sets_in m contents.nodes contents.statements part;
 }
-
-abbrev pub block_meant : Metamodel → RuleContents → List PatternNode → BlockId → Block
-block_meant m contents before part =
-    block_with m contents before (nodes_in m contents.nodes part) part
 
 -- The block with its slots: those of its nodes, the first of which has this number, that are read
 -- or set.
@@ -108,7 +77,7 @@ multi_of m first block = record {
 }
 
 abbrev pub multi_meant : Metamodel → RuleContents → List PatternNode → BlockId → Multi
-multi_meant m contents kernel part = multi_of m (length kernel) (block_meant m contents kernel part)
+multi_meant m contents kernel part = multi_of m (length kernel) (block_meant m contents part)
 
 -- What a rule reads, its multi-rules included.
 abbrev pub reads_with : Block → List Multi → List SlotRead
@@ -118,29 +87,29 @@ reads_with kernel multis =
 
 -- The rule with this kernel and these multi-rules. A slot of the kernel that a multi-rule reads is
 -- the kernel's.
-abbrev pub rule_with : Metamodel → WrittenRule → RuleContents → Block → List Multi → Rule
-rule_with m rule contents kernel multis = record {
-  name = rule.name.text;
-  params = params_meant m rule.params;
+abbrev pub rule_with : Metamodel → RuleContents → Block → List Multi → Rule
+rule_with m contents kernel multis = record {
+  name = contents.rule.name.text;
+  params = params_meant m contents.rule.params;
   shape = shape_with m (reads_with kernel multis) 0 kernel;
-  forbids = map (part_meant m contents kernel.nodes) (each forbid_at rule.items);
-  needs = map (part_meant m contents kernel.nodes) (each require_at rule.items);
+  forbids = map (part_meant m contents) (each forbid_at contents.rule.items);
+  needs = map (part_meant m contents) (each require_at contents.rule.items);
   multis = multis;
   wheres = kernel.wheres;
   sets = kernel.sets;
 }
 
 -- The rule with this kernel: its multi-rules go on from the kernel's nodes.
-abbrev pub rule_around : Metamodel → WrittenRule → RuleContents → Block → Rule
-rule_around m rule contents kernel =
-    rule_with m rule contents kernel
-    (map (multi_meant m contents kernel.nodes) (each multi_at rule.items))
+abbrev pub rule_around : Metamodel → RuleContents → Block → Rule
+rule_around m contents kernel =
+    rule_with m contents kernel
+    (map (multi_meant m contents kernel.nodes) (each multi_at contents.rule.items))
 
-abbrev pub rule_from : Metamodel → WrittenRule → RuleContents → Rule
-rule_from m rule contents = rule_around m rule contents (block_meant m contents [] home.Kernel)
+abbrev pub rule_from : Metamodel → RuleContents → Rule
+rule_from m contents = rule_around m contents (block_meant m contents home.Kernel)
 
 abbrev pub rule_meant : Metamodel → WrittenRule → Rule
-rule_meant m rule = rule_from m rule (rule_contents rule)
+rule_meant m rule = rule_from m (rule_contents m rule)
 
 -- The rules of a text, in written order.
 abbrev pub rules_meant : Metamodel → List Definition → List Rule

@@ -1,6 +1,6 @@
 -- The slots of a kernel or a multi-rule.
-use Rattle.std.specs.Prelude.{ℕ, List, [], map, Bool, false, ◌||◌, is_some, if◌then◌else◌}
-use Rattle.std.specs.List.{filter}
+use Rattle.std.specs.Prelude.{ℕ, List, [], map, Bool, false, ◌&&◌, ◌||◌, eqb, is_some, if◌then◌else◌}
+use Rattle.std.specs.List.{filter, list_any}
 use Rattle.std.specs.Option.{option_map_or}
 use Rattle.hs_expr.specs.declared.SlotRead.{SlotRead}
 use Rattle.hs_expr.specs.Verdict.{each_from}
@@ -10,9 +10,17 @@ use Rattle.hs_types.specs.declared.rule.PatternSlot.{PatternSlot}
 use Rattle.hs_types.specs.declared.rule.SetItem.{SetItem}
 use Rattle.hs_types.specs.declared.rule.SlotKind.TheVariants.{Attribute}
 use Rattle.hs_types.specs.Metamodel.{features_of, type_of}
-use Rattle.hs_types.specs.Pattern.{is_left}
-use Rattle.hs_types.specs.RuleForm.{is_read, is_set}
+use Rattle.hs_types.specs.Pattern.{is_kind, is_left}
 use Rattle.hs_faults.specs.Names.{as_number}
+
+-- The slot is read, and it is set.
+abbrev pub is_read : List SlotRead → PatternSlot → Bool
+is_read reads slot =
+    list_any (λ read. eqb read.node slot.node && is_kind (Attribute read.attribute) slot.kind) reads
+
+abbrev pub is_set : List SetItem → PatternSlot → Bool
+is_set sets slot =
+    list_any (λ item. eqb item.node slot.node && is_kind (Attribute item.attribute) slot.kind) sets
 
 -- The slot of attribute a at node n.
 abbrev pub slot_with : ℕ → ℕ → Bool → PatternSlot

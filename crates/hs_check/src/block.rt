@@ -3,13 +3,11 @@
 ghost use Rattle.std.specs.Prelude.{◌≡◌, IfOk, length};
 ghost use Rattle.hs_check.specs.Rules as spec;
 
-use crate::contents::RuleContents;
 use crate::elements::{edges_of_part, nodes_in};
 use crate::expressions::{sets_in, wheres_in};
 use crate::slots::{add_reads_in, slots_from};
-use crate::visible_nodes::VisibleNodes;
 use hs_expr::{Expr, List};
-use hs_faults::{BlockId, RuleScope};
+use hs_faults::{BlockId, RuleContents};
 use hs_types::{Meta, Multi, Part, PatternEdge, PatternNode, SetItem, Shape};
 use std::alloc::{AllocError, Global};
 
@@ -22,64 +20,39 @@ pub struct Block {
     pub sets: List<SetItem>,
 }
 
-/// A forbid or require block, after these nodes of the kernel.
+/// A forbid or require block.
 pub fn part_meant(
     alloc: Global,
     meta: &Meta,
     contents: &RuleContents<'_>,
-    kernel: &[PatternNode],
     part: BlockId,
 ) -> Result<Part, AllocError>
-    ensures { IfOk result (λ meant. meant ≡ spec.part_meant meta.now contents.now kernel.now part) }
+    ensures { IfOk result (λ meant. meant ≡ spec.part_meant meta.now contents.now part) }
 {
-    let nodes = nodes_in(alloc, meta, contents.nodes.items(), part)?;
-    let open = VisibleNodes::new(kernel, nodes.as_slice());
-    let edges = edges_of_part(alloc, meta, &open, contents.statements.as_slice(), part)?;
-    Ok(Part { nodes, edges })
+    let declared = contents.nodes.as_slice();
+    let statements = contents.statements.as_slice();
+    Ok(Part {
+        nodes: nodes_in(alloc, meta, declared, part)?,
+        edges: edges_of_part(alloc, meta, declared, statements, part)?,
+    })
 }
 
-/// The kernel or a multi block, after these nodes.
+/// The kernel or a multi block.
 pub fn block_meant(
     alloc: Global,
     meta: &Meta,
     contents: &RuleContents<'_>,
-    before: &[PatternNode],
     part: BlockId,
 ) -> Result<Block, AllocError>
-    ensures { IfOk result
-        (λ block. block ≡ spec.block_meant meta.now contents.now before.now part) }
+    ensures { IfOk result (λ block. block ≡ spec.block_meant meta.now contents.now part) }
 {
-    let nodes = nodes_in(alloc, meta, contents.nodes.items(), part)?;
-    block_with(alloc, meta, contents, before, nodes, part)
-}
-
-fn block_with(
-    alloc: Global,
-    meta: &Meta,
-    contents: &RuleContents<'_>,
-    before: &[PatternNode],
-    nodes: List<PatternNode>,
-    part: BlockId,
-) -> Result<Block, AllocError>
-    ensures { IfOk result
-        (λ block. block ≡ spec.block_with meta.now contents.now before.now nodes part) }
-{
+    let declared = contents.nodes.as_slice();
     let statements = contents.statements.as_slice();
-    let open = VisibleNodes::new(before, nodes.as_slice());
-    let names = RuleScope {
-        meta,
-        params: &contents.params,
-        nodes: &contents.nodes,
-        block: part,
-    };
-    let edges = edges_of_part(alloc, meta, &open, statements, part)?;
-    let wheres = wheres_in(alloc, &names, statements, part)?;
-    let sets = sets_in(alloc, &names, &open, statements, part)?;
     Ok(Block {
-        nodes,
-        edges,
-        wheres,
-        sets,
+        nodes: nodes_in(alloc, meta, declared, part)?,
+        edges: edges_of_part(alloc, meta, declared, statements, part)?,
+        wheres: wheres_in(alloc, statements, part)?,
+        sets: sets_in(alloc, meta, declared, statements, part)?,
     })
 }
 
@@ -94,7 +67,7 @@ pub fn multi_meant(
     ensures { IfOk result
         (λ multi. multi ≡ spec.multi_meant meta.now contents.now kernel.now part) }
 {
-    let block = block_meant(alloc, meta, contents, kernel, part)?;
+    let block = block_meant(alloc, meta, contents, part)?;
     multi_of(alloc, meta, kernel, block)
 }
 

@@ -1,11 +1,11 @@
 //! A text, checked and understood.
 
-ghost use Rattle.std.specs.Prelude.{◌≡◌, IfOk, Ok};
+ghost use Rattle.std.specs.Prelude.{◌≡◌, IfOk, Ok, map};
 ghost use Rattle.std.specs.Arc.{arc_value};
 ghost use Rattle.hs_expr.specs.Verdict.{verdict};
-ghost use Rattle.hs_types.specs.Journal.{meta_of};
 ghost use Rattle.hs_expr.specs.Steps.{GivesWhere};
-ghost use Rattle.hs_faults.specs.UnitFaults.{faults_of};
+ghost use Rattle.hs_faults.specs.Contents.{rule_contents};
+ghost use Rattle.hs_faults.specs.UnitFaults.{faults_of, rules_of};
 ghost use Rattle.hs_check.specs.Counts.{KeepAll};
 ghost use Rattle.hs_check.specs.Meaning.{IsMeant};
 ghost use Rattle.hs_check.specs.Resolution.{Resolve};
@@ -13,7 +13,7 @@ ghost use Rattle.hs_check.specs.Resolution.{Resolve};
 use crate::rules::rules_meant;
 use crate::units::units_meant;
 use hs_expr::Failure;
-use hs_faults::RuleFault;
+use hs_faults::{RuleContents, RuleFault};
 use hs_text::Syntax;
 use hs_types::{Meta, RuleSet};
 use std::alloc::{AllocError, Global};
@@ -32,29 +32,35 @@ pub fn check(
 ) -> Result<RuleSet, Failure<RuleFault>>
     ensures set { GivesWhere (IsMeant (arc_value meta.now) syntax.now.definitions) result
         (verdict (faults_of (arc_value meta.now) syntax.now.definitions)) }
-    ensures meta { IfOk result (λ set. meta_of set ≡ arc_value meta.now) }
+    ensures meta { IfOk result (λ set. set.meta ≡ arc_value meta.now) }
     ensures whole { IfOk result (λ set. KeepAll syntax.now.definitions set.rules) }
     ensures found { IfOk result (λ set. Resolve (arc_value meta.now) syntax.now.definitions) }
 {
-    hs_faults::check(alloc, meta, syntax)?;
-    let set = set_meant(alloc, meta, syntax)?;
+    let rules = hs_faults::check(alloc, meta, syntax)?;
+    let set = set_meant(alloc, meta, syntax, rules.as_slice())?;
     Ok(set)
 }
 
-/// The rules and the units that a text without faults means.
+/// The rules and the units that a text without faults means, whose rules declare and state this.
 #[tactic(auto, using(hs_expr::proofs::Lists::all_from_recursion))]
-fn set_meant(alloc: Global, meta: &Arc<Meta>, syntax: &Syntax) -> Result<RuleSet, AllocError>
-    requires { verdict (faults_of (arc_value meta.now) syntax.now.definitions) ≡ Ok tt }
+fn set_meant(
+    alloc: Global,
+    meta: &Arc<Meta>,
+    syntax: &Syntax,
+    rules: &[RuleContents<'_>],
+) -> Result<RuleSet, AllocError>
+    requires fine { verdict (faults_of (arc_value meta.now) syntax.now.definitions) ≡ Ok tt }
+    requires rules { rules.now
+        ≡ map (rule_contents (arc_value meta.now)) (rules_of syntax.now.definitions) }
     ensures set { IfOk result (IsMeant (arc_value meta.now) syntax.now.definitions) }
-    ensures meta { IfOk result (λ set. meta_of set ≡ arc_value meta.now) }
+    ensures meta { IfOk result (λ set. set.meta ≡ arc_value meta.now) }
     ensures whole { IfOk result (λ set. KeepAll syntax.now.definitions set.rules) }
     ensures found { IfOk result (λ set. Resolve (arc_value meta.now) syntax.now.definitions) }
 {
     meta.is_metamodel();
-    let definitions = syntax.definitions.as_slice();
     Ok(RuleSet {
         meta: meta.clone()?,
-        rules: rules_meant(alloc, meta, definitions)?,
-        units: units_meant(alloc, meta, definitions)?,
+        rules: rules_meant(alloc, meta, rules)?,
+        units: units_meant(alloc, meta, syntax.definitions.as_slice())?,
     })
 }

@@ -1,14 +1,14 @@
 //! What nodes and edges mean, part by part of a rule.
 
-ghost use Rattle.std.specs.Prelude.{◌≡◌, ◌++◌, ◌∷◌, [], IfOk, OnOk};
+ghost use Rattle.std.specs.Prelude.{◌≡◌, ◌++◌, ◌∷◌, [], IfOk, OnOk, option_copied};
 ghost use Rattle.hs_faults.specs.Marks.{mark_meant};
+ghost use Rattle.hs_faults.specs.Names.{node_named};
 ghost use Rattle.hs_check.specs.Elements as spec;
 
 use crate::parameters::class_meant;
-use crate::visible_nodes::VisibleNodes;
 use hs_expr::List;
-use hs_faults::statements::{Statement, StatementKind};
-use hs_faults::{BlockId, DeclaredNode, feature_named, same_block};
+use hs_faults::statements::{CheckedStatement, StatementKind};
+use hs_faults::{BlockId, DeclaredNode, class_number, feature_named, same_block};
 use hs_text::Mark as WrittenMark;
 use hs_types::{FeatureNo, Mark, Meta, PatternEdge, PatternNode};
 use std::alloc::{AllocError, Global};
@@ -64,47 +64,56 @@ pub fn nodes_in(
     Ok(nodes)
 }
 
+/// The node of this name.
+fn node_named<'a>(declared: &'a [DeclaredNode], name: &str) -> Option<&'a DeclaredNode>
+    ensures { option_copied result ≡ node_named declared.now name.now }
+{
+    declared.iter().find(|node| name == node.name.text.as_str())
+}
+
 /// The number of the node of this name.
-pub fn node_number(nodes: &VisibleNodes<'_>, name: &str) -> u16
-    ensures { result ≡ spec.node_number nodes.now name.now }
+pub fn node_number(declared: &[DeclaredNode], name: &str) -> u16
+    ensures { result ≡ spec.node_number declared.now name.now }
 {
-    nodes.find(name).unwrap_or(0)
+    match node_named(declared, name) {
+        Some(node) => node.number,
+        None => 0,
+    }
 }
 
-/// The feature of this name in the class of the node of this number.
-pub fn feature_found(
-    meta: &Meta,
-    nodes: &VisibleNodes<'_>,
-    number: u16,
-    name: &str,
-) -> Option<FeatureNo>
-    ensures { result ≡ spec.feature_found meta.now nodes.now number name.now }
+/// The feature of this name in the class of the node.
+fn node_feature(meta: &Meta, name: &str, node: &DeclaredNode) -> Option<FeatureNo>
+    ensures { result ≡ spec.node_feature meta.now name.now node.now }
 {
-    let node = nodes.get(number)?;
-    feature_named(meta, node.class, name)
+    let class = class_number(meta, &node.class.text)?;
+    feature_named(meta, class, name)
 }
 
-pub fn feature_number(meta: &Meta, nodes: &VisibleNodes<'_>, number: u16, name: &str) -> FeatureNo
-    ensures { result ≡ spec.feature_number meta.now nodes.now number name.now }
+/// The feature of this name in the class of the node of that name.
+pub fn feature_number(meta: &Meta, declared: &[DeclaredNode], node: &str, name: &str) -> FeatureNo
+    ensures { result ≡ spec.feature_number meta.now declared.now node.now name.now }
 {
-    feature_found(meta, nodes, number, name).unwrap_or(0)
+    match node_named(declared, node) {
+        Some(node) => node_feature(meta, name, node).unwrap_or(0),
+        None => 0,
+    }
 }
 
 fn edge_meant(
     meta: &Meta,
-    nodes: &VisibleNodes<'_>,
+    declared: &[DeclaredNode],
     mark: Mark,
     source: &str,
     target: &str,
     reference: &str,
 ) -> PatternEdge
-    ensures { result ≡ spec.edge_meant meta.now nodes.now mark source.now target.now reference.now }
+    ensures { result ≡ spec.edge_meant meta.now declared.now mark source.now target.now
+        reference.now }
 {
-    let from = node_number(nodes, source);
     PatternEdge {
-        source: from,
-        reference: feature_number(meta, nodes, from, reference),
-        target: node_number(nodes, target),
+        source: node_number(declared, source),
+        reference: feature_number(meta, declared, source, reference),
+        target: node_number(declared, target),
         mark,
     }
 }
@@ -112,21 +121,21 @@ fn edge_meant(
 /// The edge that the statement means, if it is an edge of this part of the rule.
 fn edge_in(
     meta: &Meta,
-    nodes: &VisibleNodes<'_>,
+    declared: &[DeclaredNode],
     part: BlockId,
-    statement: &Statement<'_>,
+    checked: &CheckedStatement<'_>,
 ) -> Option<PatternEdge>
-    ensures { result ≡ spec.edge_in meta.now nodes.now part statement.now }
+    ensures { result ≡ spec.edge_in meta.now declared.now part checked.now }
 {
-    match statement.kind {
+    match checked.statement.kind {
         StatementKind::Edge {
             mark,
             source,
             target,
             reference,
-        } if same_block(part, statement.block) => Some(edge_meant(
+        } if same_block(part, checked.statement.block) => Some(edge_meant(
             meta,
-            nodes,
+            declared,
             mark_meant(mark),
             source.text.as_str(),
             target.text.as_str(),
@@ -139,34 +148,34 @@ fn edge_in(
 /// Adds the edge that the statement means, if it is an edge of this part of the rule.
 fn add_edge(
     meta: &Meta,
-    nodes: &VisibleNodes<'_>,
+    declared: &[DeclaredNode],
     edges: &mut List<PatternEdge>,
-    statement: &Statement<'_>,
+    statement: &CheckedStatement<'_>,
     part: BlockId,
 ) -> Result<(), AllocError>
-    ensures { OnOk result
-        (edges.new ≡ edges.old ++ spec.edges_of_part meta.now nodes.now (statement.now ∷ []) part) }
+    ensures { OnOk result (edges.new
+        ≡ edges.old ++ spec.edges_of_part meta.now declared.now (statement.now ∷ []) part) }
 {
-    if let Some(edge) = edge_in(meta, nodes, part, statement) {
+    if let Some(edge) = edge_in(meta, declared, part, statement) {
         edges.push(edge)?;
     }
     Ok(())
 }
 
-/// The edges of one part of the rule, which may name these nodes.
+/// The edges of one part of the rule, which declares these nodes.
 pub fn edges_of_part(
     alloc: Global,
     meta: &Meta,
-    nodes: &VisibleNodes<'_>,
-    statements: &[Statement<'_>],
+    declared: &[DeclaredNode],
+    statements: &[CheckedStatement<'_>],
     part: BlockId,
 ) -> Result<List<PatternEdge>, AllocError>
     ensures { IfOk result
-        (λ edges. edges ≡ spec.edges_of_part meta.now nodes.now statements.now part) }
+        (λ edges. edges ≡ spec.edges_of_part meta.now declared.now statements.now part) }
 {
     let mut edges = List::new(alloc);
     for statement in statements {
-        add_edge(meta, nodes, &mut edges, statement, part)?;
+        add_edge(meta, declared, &mut edges, statement, part)?;
     }
     Ok(edges)
 }

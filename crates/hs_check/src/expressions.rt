@@ -1,65 +1,63 @@
 //! The conditions and the sets of one part of a rule.
 
-ghost use Rattle.std.specs.Prelude.{◌≡◌, ◌++◌, ◌∷◌, [], IfOk, OnOk};
-ghost use Rattle.hs_faults.specs.StatementFaults.{rule_scope};
+ghost use Rattle.std.specs.Prelude.{◌≡◌, ◌++◌, ◌∷◌, [], IfOk, OnOk, option_copied};
 ghost use Rattle.hs_check.specs.Expressions as spec;
 
 use crate::elements::{feature_number, node_number};
-use crate::visible_nodes::VisibleNodes;
-use hs_eval::check;
-use hs_expr::{Expr, List, NameExpr, value_of};
-use hs_faults::statements::{Statement, StatementKind};
-use hs_faults::{BlockId, RuleScope, same_block};
+use hs_expr::{Expr, List};
+use hs_faults::statements::{CheckedStatement, StatementKind};
+use hs_faults::{BlockId, DeclaredNode, same_block};
 use hs_types::{Meta, SetItem};
+use sqlite_items::Boxed;
 use std::alloc::{AllocError, Global};
 
-/// The expression by numbers, where it has no fault and nests at most 32 deep.
-#[tactic(auto, using(hs_expr::proofs::OneTree::expr_trees))]
-fn expr_meant(
-    alloc: Global,
-    names: &RuleScope<'_, '_, '_>,
-    expr: &NameExpr,
-) -> Result<Option<Expr>, AllocError>
-    ensures { IfOk result (λ meant. meant ≡ spec.expr_meant (rule_scope names.now.meta.now
-        names.now.params.now names.now.nodes.now names.now.block) expr.now) }
+/// A copy of an expression that nests few.
+fn copy_of(alloc: Global, expr: &Expr) -> Result<Expr, AllocError>
+    ensures { IfOk result (λ copy. copy ≡ expr.now) }
 {
-    match value_of(check(alloc, expr, names))? {
-        Some(checked) => Ok(checked.expr),
-        None => Ok(None),
+    match expr {
+        Expr::Literal(value) => Ok(Expr::Literal(value.clone()?)),
+        Expr::Slot(read) => Ok(Expr::Slot(*read)),
+        Expr::Param(number) => Ok(Expr::Param(*number)),
+        Expr::Not(operand) => {
+            let operand = copy_of(alloc, operand.get())?;
+            Ok(Expr::Not(Boxed::new(alloc, operand)?))
+        }
+        Expr::Minus(operand) => {
+            let operand = copy_of(alloc, operand.get())?;
+            Ok(Expr::Minus(Boxed::new(alloc, operand)?))
+        }
+        Expr::Binary(sign, left, right) => {
+            let left = Boxed::new(alloc, copy_of(alloc, left.get())?)?;
+            let right = Boxed::new(alloc, copy_of(alloc, right.get())?)?;
+            Ok(Expr::Binary(*sign, left, right))
+        }
     }
 }
 
 /// The condition that the statement means, if it is one of this part of the rule.
-fn where_in(
-    alloc: Global,
-    names: &RuleScope<'_, '_, '_>,
-    part: BlockId,
-    statement: &Statement<'_>,
-) -> Result<Option<Expr>, AllocError>
-    ensures { IfOk result (λ test. test ≡ spec.where_in (rule_scope names.now.meta.now
-        names.now.params.now names.now.nodes.now names.now.block) part statement.now) }
+fn where_in<'a>(part: BlockId, checked: &'a CheckedStatement<'_>) -> Option<&'a Expr>
+    ensures { option_copied result ≡ spec.where_in part checked.now }
 {
-    match statement.kind {
-        StatementKind::Where { test, .. } if same_block(part, statement.block) => {
-            expr_meant(alloc, names, test)
+    match checked.statement.kind {
+        StatementKind::Where { .. } if same_block(part, checked.statement.block) => {
+            checked.expr.as_ref()
         }
-        _ => Ok(None),
+        _ => None,
     }
 }
 
 /// Adds the condition that the statement means, if it is one of this part of the rule.
 fn add_where(
     alloc: Global,
-    names: &RuleScope<'_, '_, '_>,
     wheres: &mut List<Expr>,
-    statement: &Statement<'_>,
+    statement: &CheckedStatement<'_>,
     part: BlockId,
 ) -> Result<(), AllocError>
-    ensures { OnOk result (wheres.new ≡ wheres.old ++ spec.wheres_in (rule_scope names.now.meta.now
-        names.now.params.now names.now.nodes.now names.now.block) (statement.now ∷ []) part) }
+    ensures { OnOk result (wheres.new ≡ wheres.old ++ spec.wheres_in (statement.now ∷ []) part) }
 {
-    if let Some(test) = where_in(alloc, names, part, statement)? {
-        wheres.push(test)?;
+    if let Some(test) = where_in(part, statement) {
+        wheres.push(copy_of(alloc, test)?)?;
     }
     Ok(())
 }
@@ -67,33 +65,30 @@ fn add_where(
 /// The conditions of one part of the rule.
 pub fn wheres_in(
     alloc: Global,
-    names: &RuleScope<'_, '_, '_>,
-    statements: &[Statement<'_>],
+    statements: &[CheckedStatement<'_>],
     part: BlockId,
 ) -> Result<List<Expr>, AllocError>
-    ensures { IfOk result (λ wheres. wheres ≡ spec.wheres_in (rule_scope names.now.meta.now
-        names.now.params.now names.now.nodes.now names.now.block) statements.now part) }
+    ensures { IfOk result (λ wheres. wheres ≡ spec.wheres_in statements.now part) }
 {
     let mut wheres = List::new(alloc);
     for statement in statements {
-        add_where(alloc, names, &mut wheres, statement, part)?;
+        add_where(alloc, &mut wheres, statement, part)?;
     }
     Ok(wheres)
 }
 
 fn set_meant(
     meta: &Meta,
-    nodes: &VisibleNodes<'_>,
+    declared: &[DeclaredNode],
     node: &str,
     attribute: &str,
     value: Expr,
 ) -> SetItem
-    ensures { result ≡ spec.set_meant meta.now nodes.now node.now attribute.now value }
+    ensures { result ≡ spec.set_meant meta.now declared.now node.now attribute.now value }
 {
-    let number = node_number(nodes, node);
     SetItem {
-        node: number,
-        attribute: feature_number(meta, nodes, number, attribute),
+        node: node_number(declared, node),
+        attribute: feature_number(meta, declared, node, attribute),
         value,
     }
 }
@@ -101,30 +96,30 @@ fn set_meant(
 /// The set that the statement means, if it is one of this part of the rule.
 fn set_in(
     alloc: Global,
-    names: &RuleScope<'_, '_, '_>,
-    nodes: &VisibleNodes<'_>,
+    meta: &Meta,
+    declared: &[DeclaredNode],
     part: BlockId,
-    statement: &Statement<'_>,
+    checked: &CheckedStatement<'_>,
 ) -> Result<Option<SetItem>, AllocError>
-    ensures { IfOk result
-        (λ item. item ≡ spec.set_in names.now.meta.now (rule_scope names.now.meta.now
-        names.now.params.now names.now.nodes.now names.now.block) nodes.now part statement.now) }
+    ensures { IfOk result (λ item. item ≡ spec.set_in meta.now declared.now part checked.now) }
 {
-    match statement.kind {
-        StatementKind::Set {
-            node,
-            attribute,
-            value,
-        } if same_block(part, statement.block) => match expr_meant(alloc, names, value)? {
-            Some(value) => Ok(Some(set_meant(
-                names.meta,
-                nodes,
+    match (checked.statement.kind, &checked.expr) {
+        (
+            StatementKind::Set {
+                node,
+                attribute,
+                ..
+            },
+            Some(value),
+        ) if same_block(part, checked.statement.block) => {
+            Ok(Some(set_meant(
+                meta,
+                declared,
                 node.text.as_str(),
                 attribute.text.as_str(),
-                value,
-            ))),
-            None => Ok(None),
-        },
+                copy_of(alloc, value)?,
+            )))
+        }
         _ => Ok(None),
     }
 }
@@ -132,17 +127,16 @@ fn set_in(
 /// Adds the set that the statement means, if it is one of this part of the rule.
 fn add_set(
     alloc: Global,
-    names: &RuleScope<'_, '_, '_>,
-    nodes: &VisibleNodes<'_>,
+    meta: &Meta,
+    declared: &[DeclaredNode],
     sets: &mut List<SetItem>,
-    statement: &Statement<'_>,
+    statement: &CheckedStatement<'_>,
     part: BlockId,
 ) -> Result<(), AllocError>
-    ensures { OnOk result (sets.new ≡ sets.old ++ spec.sets_in names.now.meta.now
-        (rule_scope names.now.meta.now names.now.params.now names.now.nodes.now names.now.block)
-        nodes.now (statement.now ∷ []) part) }
+    ensures { OnOk result
+        (sets.new ≡ sets.old ++ spec.sets_in meta.now declared.now (statement.now ∷ []) part) }
 {
-    if let Some(item) = set_in(alloc, names, nodes, part, statement)? {
+    if let Some(item) = set_in(alloc, meta, declared, part, statement)? {
         sets.push(item)?;
     }
     Ok(())
@@ -151,18 +145,16 @@ fn add_set(
 /// The sets of one part of the rule.
 pub fn sets_in(
     alloc: Global,
-    names: &RuleScope<'_, '_, '_>,
-    nodes: &VisibleNodes<'_>,
-    statements: &[Statement<'_>],
+    meta: &Meta,
+    declared: &[DeclaredNode],
+    statements: &[CheckedStatement<'_>],
     part: BlockId,
 ) -> Result<List<SetItem>, AllocError>
-    ensures { IfOk result
-        (λ sets. sets ≡ spec.sets_in names.now.meta.now (rule_scope names.now.meta.now
-        names.now.params.now names.now.nodes.now names.now.block) nodes.now statements.now part) }
+    ensures { IfOk result (λ sets. sets ≡ spec.sets_in meta.now declared.now statements.now part) }
 {
     let mut sets = List::new(alloc);
     for statement in statements {
-        add_set(alloc, names, nodes, &mut sets, statement, part)?;
+        add_set(alloc, meta, declared, &mut sets, statement, part)?;
     }
     Ok(sets)
 }

@@ -7,7 +7,6 @@
 
 mod block;
 mod checking;
-mod contents;
 mod elements;
 mod examples;
 mod expressions;
@@ -16,7 +15,6 @@ mod parameters;
 mod rules;
 mod slots;
 mod units;
-mod visible_nodes;
 
 pub use checking::check;
 pub use examples::{binds_tried, rule_tried, sets_tried, slots_tried, units_tried};

@@ -4,17 +4,15 @@ ghost use Rattle.std.specs.Prelude.{◌≡◌, ◌++◌, [], IfOk, OnOk, map};
 ghost use Rattle.std.specs.List.{flat_map};
 ghost use Rattle.hs_expr.specs.Verdict.{each};
 ghost use Rattle.hs_types.specs.RuleForm.{reads_in};
-ghost use Rattle.hs_faults.specs.Faults.{as_rule};
 ghost use Rattle.hs_check.specs.Rules as spec;
 ghost use Rattle.hs_check.specs.Slots.{slots_from};
 
 use crate::block::{Block, block_meant, multi_meant, part_meant};
-use crate::contents::{RuleContents, rule_contents};
 use crate::parameters::params_meant;
 use crate::slots::{add_reads_in, slots_from};
 use hs_expr::{List, SlotRead};
-use hs_faults::{BlockId, data_params, declared_nodes};
-use hs_text::{Definition, Item, Rule as WrittenRule};
+use hs_faults::{BlockId, RuleContents};
+use hs_text::Item;
 use hs_types::{Meta, Multi, Part, PatternNode, PatternSlot, Rule, Shape};
 use std::alloc::{AllocError, Global};
 
@@ -58,15 +56,14 @@ fn parts_meant(
     alloc: Global,
     meta: &Meta,
     contents: &RuleContents<'_>,
-    kernel: &[PatternNode],
     homes: &[BlockId],
 ) -> Result<List<Part>, AllocError>
     ensures { IfOk result
-        (λ parts. parts ≡ map (spec.part_meant meta.now contents.now kernel.now) homes.now) }
+        (λ parts. parts ≡ map (spec.part_meant meta.now contents.now) homes.now) }
 {
     let mut parts = List::new(alloc);
     for home in homes {
-        parts.push(part_meant(alloc, meta, contents, kernel, *home)?)?;
+        parts.push(part_meant(alloc, meta, contents, *home)?)?;
     }
     Ok(parts)
 }
@@ -91,15 +88,14 @@ fn multis_at(
 fn multis_meant(
     alloc: Global,
     meta: &Meta,
-    rule: &WrittenRule,
     contents: &RuleContents<'_>,
     kernel: &[PatternNode],
 ) -> Result<List<Multi>, AllocError>
     ensures { IfOk result
         (λ multis. multis ≡ map (spec.multi_meant meta.now contents.now kernel.now)
-        (each spec.multi_at rule.now.items)) }
+        (each spec.multi_at contents.now.rule.items)) }
 {
-    let homes = multis(alloc, rule.items.as_slice())?;
+    let homes = multis(alloc, contents.rule.items.as_slice())?;
     multis_at(alloc, meta, contents, kernel, homes.as_slice())
 }
 
@@ -148,51 +144,46 @@ fn kernel_slots(
 fn forbids_meant(
     alloc: Global,
     meta: &Meta,
-    rule: &WrittenRule,
     contents: &RuleContents<'_>,
-    kernel: &[PatternNode],
 ) -> Result<List<Part>, AllocError>
     ensures { IfOk result
-        (λ parts. parts ≡ map (spec.part_meant meta.now contents.now kernel.now)
-        (each spec.forbid_at rule.now.items)) }
+        (λ parts. parts ≡ map (spec.part_meant meta.now contents.now)
+        (each spec.forbid_at contents.now.rule.items)) }
 {
-    let homes = forbids(alloc, rule.items.as_slice())?;
-    parts_meant(alloc, meta, contents, kernel, homes.as_slice())
+    let homes = forbids(alloc, contents.rule.items.as_slice())?;
+    parts_meant(alloc, meta, contents, homes.as_slice())
 }
 
 fn needs_meant(
     alloc: Global,
     meta: &Meta,
-    rule: &WrittenRule,
     contents: &RuleContents<'_>,
-    kernel: &[PatternNode],
 ) -> Result<List<Part>, AllocError>
     ensures { IfOk result
-        (λ parts. parts ≡ map (spec.part_meant meta.now contents.now kernel.now)
-        (each spec.require_at rule.now.items)) }
+        (λ parts. parts ≡ map (spec.part_meant meta.now contents.now)
+        (each spec.require_at contents.now.rule.items)) }
 {
-    let homes = requires_of(alloc, rule.items.as_slice())?;
-    parts_meant(alloc, meta, contents, kernel, homes.as_slice())
+    let homes = requires_of(alloc, contents.rule.items.as_slice())?;
+    parts_meant(alloc, meta, contents, homes.as_slice())
 }
 
 /// The rule with this kernel and these multi-rules.
 fn rule_with(
     alloc: Global,
     meta: &Meta,
-    rule: &WrittenRule,
     contents: &RuleContents<'_>,
     kernel: Block,
     multis: List<Multi>,
 ) -> Result<Rule, AllocError>
     ensures { IfOk result
-        (λ meant. meant ≡ spec.rule_with meta.now rule.now contents.now kernel multis) }
+        (λ meant. meant ≡ spec.rule_with meta.now contents.now kernel multis) }
 {
     let slots = kernel_slots(alloc, meta, &kernel, multis.as_slice())?;
-    let forbids = forbids_meant(alloc, meta, rule, contents, kernel.nodes.as_slice())?;
-    let needs = needs_meant(alloc, meta, rule, contents, kernel.nodes.as_slice())?;
+    let forbids = forbids_meant(alloc, meta, contents)?;
+    let needs = needs_meant(alloc, meta, contents)?;
     Ok(Rule {
-        name: rule.name.text.clone()?,
-        params: params_meant(alloc, meta, rule.params.as_slice())?,
+        name: contents.rule.name.text.clone()?,
+        params: params_meant(alloc, meta, contents.rule.params.as_slice())?,
         shape: Shape {
             nodes: kernel.nodes,
             edges: kernel.edges,
@@ -210,69 +201,35 @@ fn rule_with(
 fn rule_around(
     alloc: Global,
     meta: &Meta,
-    rule: &WrittenRule,
     contents: &RuleContents<'_>,
     kernel: Block,
 ) -> Result<Rule, AllocError>
     ensures { IfOk result
-        (λ meant. meant ≡ spec.rule_around meta.now rule.now contents.now kernel) }
+        (λ meant. meant ≡ spec.rule_around meta.now contents.now kernel) }
 {
-    let multis = multis_meant(alloc, meta, rule, contents, kernel.nodes.as_slice())?;
-    rule_with(alloc, meta, rule, contents, kernel, multis)
+    let multis = multis_meant(alloc, meta, contents, kernel.nodes.as_slice())?;
+    rule_with(alloc, meta, contents, kernel, multis)
 }
 
-fn rule_meant(alloc: Global, meta: &Meta, rule: &WrittenRule) -> Result<Rule, AllocError>
-    ensures { IfOk result (λ meant. meant ≡ spec.rule_meant meta.now rule.now) }
+/// The rule that declares and states this.
+fn rule_from(alloc: Global, meta: &Meta, contents: &RuleContents<'_>) -> Result<Rule, AllocError>
+    ensures { IfOk result (λ meant. meant ≡ spec.rule_from meta.now contents.now) }
 {
-    let params = data_params(alloc, rule.params.as_slice())?;
-    let nodes = declared_nodes(alloc, rule.items.as_slice())?;
-    let contents = rule_contents(alloc, rule, params.as_slice(), nodes.as_slice())?;
-    rule_from(alloc, meta, rule, &contents)
+    let kernel = block_meant(alloc, meta, contents, BlockId::Kernel)?;
+    rule_around(alloc, meta, contents, kernel)
 }
 
-/// The rule that declares and says this.
-fn rule_from(
-    alloc: Global,
-    meta: &Meta,
-    rule: &WrittenRule,
-    contents: &RuleContents<'_>,
-) -> Result<Rule, AllocError>
-    ensures { IfOk result (λ meant. meant ≡ spec.rule_from meta.now rule.now contents.now) }
-{
-    let kernel = block_meant(alloc, meta, contents, &[], BlockId::Kernel)?;
-    rule_around(alloc, meta, rule, contents, kernel)
-}
-
-/// Adds the rule that the definition means, if it is one.
-fn add_rule(
-    alloc: Global,
-    meta: &Meta,
-    rules: &mut List<Rule>,
-    definition: &Definition,
-) -> Result<(), AllocError>
-    ensures { OnOk result
-        (rules.new ≡ rules.old ++ map (spec.rule_meant meta.now) (as_rule definition.now)) }
-{
-    match definition {
-        Definition::Rule(rule) => {
-            rules.push(rule_meant(alloc, meta, rule)?)?;
-            Ok(())
-        }
-        Definition::Unit(_) => Ok(()),
-    }
-}
-
-/// The rules of a text.
+/// The rules that declare and state this.
 pub fn rules_meant(
     alloc: Global,
     meta: &Meta,
-    definitions: &[Definition],
+    all: &[RuleContents<'_>],
 ) -> Result<List<Rule>, AllocError>
-    ensures { IfOk result (λ rules. rules ≡ spec.rules_meant meta.now definitions.now) }
+    ensures { IfOk result (λ rules. rules ≡ map (spec.rule_from meta.now) all.now) }
 {
     let mut rules = List::new(alloc);
-    for definition in definitions {
-        add_rule(alloc, meta, &mut rules, definition)?;
+    for contents in all {
+        rules.push(rule_from(alloc, meta, contents)?)?;
     }
     Ok(rules)
 }

@@ -4,7 +4,7 @@ ghost use Rattle.std.specs.Prelude.{◌≡◌, ◌++◌, ◌∷◌, [], IfOk, On
 ghost use Rattle.std.specs.List.{flat_map};
 ghost use Rattle.hs_expr.specs.Evaluation.{reads_of};
 ghost use Rattle.hs_types.specs.Pattern.{is_left};
-ghost use Rattle.hs_types.specs.RuleForm.{is_read, is_set, reads_in};
+ghost use Rattle.hs_types.specs.RuleForm.{reads_in};
 ghost use Rattle.hs_check.specs.Slots as spec;
 
 use hs_expr::{Expr, List, SlotRead};
@@ -61,7 +61,7 @@ pub fn add_reads_in(
 }
 
 fn is_read(reads: &[SlotRead], node: u16, attribute: FeatureNo) -> bool
-    ensures { result ≡ is_read reads.now (spec.slot_with node attribute false) }
+    ensures { result ≡ spec.is_read reads.now (spec.slot_with node attribute false) }
 {
     reads
         .iter()
@@ -69,7 +69,7 @@ fn is_read(reads: &[SlotRead], node: u16, attribute: FeatureNo) -> bool
 }
 
 fn is_set(sets: &[SetItem], node: u16, attribute: FeatureNo) -> bool
-    ensures { result ≡ is_set sets.now (spec.slot_with node attribute false) }
+    ensures { result ≡ spec.is_set sets.now (spec.slot_with node attribute false) }
 {
     sets.iter()
         .any(|item| item.node == node && item.attribute == attribute)

@@ -1,7 +1,6 @@
 pub mod Classes
 pub mod Index
 pub mod Failures
-mod Expressions
 pub mod Definitions
 pub mod Slots
 pub mod RuleFaults

@@ -12,10 +12,10 @@ pub mod StatementKinds
 pub mod StatementFaults
 pub mod Numbers
 pub mod Written
+pub mod Contents
 pub mod Depths
 pub mod Sizes
 pub mod Faults
-pub mod SeenRules
 pub mod UnitFaults
 pub mod NamedParams
 pub mod Callable

@@ -1,17 +1,16 @@
 -- Faults of the edges, sets and conditions, in written order.
-use Rattle.std.specs.Prelude.{ℕ, nat_le, List, [], ◌∷◌, ◌++◌, Bool, true, false, not, ◌==◌, ◌&&◌, ◌||◌, if◌then◌else◌, Option, Some, None, Result, Ok, Err}
+use Rattle.std.specs.Prelude.{ℕ, List, [], ◌∷◌, ◌++◌, Bool, true, false, not, ◌==◌, ◌&&◌, ◌||◌, if◌then◌else◌, Option, Some, None, Result, Ok, Err}
 use Rattle.std.specs.List.{list_any}
 use Rattle.std.specs.Option.{option_and_then, option_map, option_map_or}
-use Rattle.hs_expr.specs.declared.expr.TheConstants.{MAX_NESTING}
-use Rattle.hs_expr.specs.declared.Expr.{Expr}
 use Rattle.hs_expr.specs.declared.Kind.{Kind}
 use Rattle.hs_expr.specs.declared.Kind.TheVariants as sort
 use Rattle.hs_expr.specs.declared.Name.{Name}
 use Rattle.hs_expr.specs.declared.NameExpr.{NameExpr}
 use Rattle.hs_expr.specs.declared.Span.{Span}
-use Rattle.hs_expr.specs.Evaluation.{nesting}
-use Rattle.hs_expr.specs.Steps.{◌>>=◌, demand, needed}
+use Rattle.hs_expr.specs.Steps.{◌>>=◌, demand, fault_as, needed}
 use Rattle.hs_eval.specs.Checking.{Names, check_tree}
+use Rattle.hs_eval.specs.Results.{checked_of, ok_map}
+use Rattle.hs_eval.specs.declared.checked.Checked.{Checked}
 use Rattle.hs_eval.specs.declared.fault.ExprFault.{ExprFault}
 use Rattle.hs_eval.specs.declared.fault.Wrong.{Wrong}
 use Rattle.hs_eval.specs.declared.fault.Wrong.TheVariants as wrong
@@ -130,22 +129,14 @@ kind_of_wrong wrong.NotRead = kind.NotRead
 kind_of_wrong wrong.UnknownAttribute = kind.UnknownAttribute
 kind_of_wrong wrong.BadKind = kind.BadKind
 
--- A fault of an expression is one of the rule.
-abbrev pub in_rule : {A B : Type 0} → (A → B) → Result A ExprFault → Result B RuleFault
-in_rule see (Ok x) = Ok (see x)
-in_rule see (Err fault) = Err (fault_at fault.at (kind_of_wrong fault.kind))
+-- A fault of an expression, as one of the rule.
+abbrev pub rule_fault : ExprFault → RuleFault
+rule_fault fault = fault_at fault.at (kind_of_wrong fault.kind)
 
--- The kind that the expression is checked to have, or its first fault.
-abbrev pub kind_checked : Names → NameExpr → Result Kind RuleFault
-kind_checked names expr = in_rule (λ (x : Expr × Kind). x.1) (check_tree names (expr_tree expr))
-
--- What the expression is checked to be nests few, where it has no fault.
-abbrev pub nests_few : Result (Expr × Kind) ExprFault → Bool
-nests_few (Ok x) = nat_le (nesting x.0) MAX_NESTING
-nests_few (Err fault) = true
-
-abbrev pub is_shallow : Names → NameExpr → Bool
-is_shallow names expr = nests_few (check_tree names (expr_tree expr))
+-- What the expression is checked to be, or its first fault.
+abbrev pub expr_checked : Names → NameExpr → Result Checked RuleFault
+expr_checked names expr =
+    fault_as rule_fault (ok_map checked_of (check_tree names (expr_tree expr)))
 
 abbrev pub same_kind : Kind → Kind → Bool
 same_kind sort.Int sort.Int = true
@@ -174,15 +165,15 @@ set_checked m params nodes before block node attribute value = do
       (fault_at attribute.span kind.UnknownAttribute)
   _ ← demand (not (is_set_before before node.text attribute.text))
       (fault_at attribute.span kind.Twice)
-  found ← kind_checked (rule_scope m params nodes block) value
-  demand (same_kind found wanted.1) (fault_at attribute.span kind.BadKind)
+  found ← expr_checked (rule_scope m params nodes block) value
+  demand (same_kind found.kind wanted.1) (fault_at attribute.span kind.BadKind)
 
 -- A condition is true or false.
 unfoldable pub where_checked : Metamodel → List DataParam → List DeclaredNode → BlockId → Span
     → NameExpr → Result (Unit {0}) RuleFault
 where_checked m params nodes block word test = do
-  found ← kind_checked (rule_scope m params nodes block) test
-  demand (same_kind found sort.Bool) (fault_at word kind.BadKind)
+  found ← expr_checked (rule_scope m params nodes block) test
+  demand (same_kind found.kind sort.Bool) (fault_at word kind.BadKind)
 
 abbrev pub statement_checked : Metamodel → List DataParam → List DeclaredNode → List Slot
     → Statement → Result (Unit {0}) RuleFault

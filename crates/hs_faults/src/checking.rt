@@ -1,30 +1,39 @@
 //! All rules and all units of a text.
 
-ghost use Rattle.std.specs.Prelude.{◌≡◌, ◌++◌};
-ghost use Rattle.hs_expr.specs.Steps.{Gives};
+ghost use Rattle.std.specs.Prelude.{◌≡◌, map};
+ghost use Rattle.hs_expr.specs.Steps.{Gives, GivesWhere};
 ghost use Rattle.hs_expr.specs.Verdict.{verdict};
+ghost use Rattle.hs_faults.specs.Contents.{rule_contents};
 ghost use Rattle.hs_faults.specs.NamedParams.{all_params};
 ghost use Rattle.hs_faults.specs.UnitFaults as spec;
 
 use crate::callees::Callees;
 use crate::cycles::check_cycles;
 use crate::fault::RuleFault;
+use crate::rule::RuleContents;
 use crate::rules::check_rules;
 use crate::signature::{Signature, signatures};
 use crate::units::check_each_unit;
-use hs_expr::Failure;
+use hs_expr::{Failure, List};
 use hs_text::{Definition, Syntax};
 use hs_types::Meta;
 use std::alloc::Global;
 
-/// Whether the rules and units of a text are free of faults over the metamodel, and else their
-/// first fault: all rules come before all units.
+/// What the rules of a text declare and state, where its rules and units are free of faults over
+/// the metamodel, and else their first fault: all rules come before all units.
 #[tactic(auto, using(hs_expr::proofs::Verdicts::each_steps, crate::proofs::Failures::fails))]
-pub fn check(alloc: Global, meta: &Meta, syntax: &Syntax) -> Result<(), Failure<RuleFault>>
-    ensures { Gives result (verdict (spec.faults_of meta.now syntax.now.definitions)) }
+pub fn check<'a>(
+    alloc: Global,
+    meta: &Meta,
+    syntax: &'a Syntax,
+) -> Result<List<RuleContents<'a>>, Failure<RuleFault>>
+    ensures { GivesWhere
+        (λ rules. rules ≡ map (rule_contents meta.now) (spec.rules_of syntax.now.definitions))
+        result (verdict (spec.faults_of meta.now syntax.now.definitions)) }
 {
-    check_rules(alloc, meta, syntax)?;
-    check_units(alloc, meta, syntax)
+    let rules = check_rules(alloc, meta, syntax)?;
+    check_units(alloc, meta, syntax)?;
+    Ok(rules)
 }
 
 /// Whether the units of a text are free of faults over the metamodel, and else their first fault:

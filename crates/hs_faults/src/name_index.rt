@@ -56,12 +56,6 @@ impl<'a, T: Named> NameIndex<'a, T> {
         Ok(NameIndex { all, by_name })
     }
 
-    pub fn items(&self) -> &'a [T]
-        ensures { result.now ≡ self.now }
-    {
-        self.all
-    }
-
     /// The first item of this name.
     pub fn find(&self, name: &str) -> Option<&'a T>
         ensures { option_copied result ≡ first_named T.named self.now name.now }

@@ -1,8 +1,7 @@
-//! What names denote in the expressions of a rule, and the kinds of these expressions.
+//! What names denote in the expressions of a rule, and what these are checked to be.
 
-ghost use Rattle.std.specs.Prelude.{◌≡◌, is_some, IfOk};
-ghost use Rattle.hs_expr.specs.Steps.{GivesBy};
-ghost use Rattle.hs_faults.specs.Places as places;
+ghost use Rattle.std.specs.Prelude.{◌≡◌};
+ghost use Rattle.hs_expr.specs.Steps.{Gives};
 ghost use Rattle.hs_faults.specs.StatementFaults as spec;
 
 use crate::edges::{is_visible, node_class};
@@ -102,16 +101,13 @@ pub fn check_expr(
     names: &RuleScope<'_, '_, '_>,
     expr: &NameExpr,
 ) -> Result<Checked, Failure<RuleFault>>
-    ensures kind { GivesBy (λ found. found.kind) result
-        (spec.kind_checked (spec.rule_scope names.now.meta.now names.now.params.now
-        names.now.nodes.now names.now.block) expr.now) }
-    ensures depth { IfOk result (λ found. is_some found.expr ≡ spec.is_shallow (spec.rule_scope
-        names.now.meta.now names.now.params.now names.now.nodes.now names.now.block) expr.now) }
+    ensures { Gives result (spec.expr_checked (spec.rule_scope names.now.meta.now
+        names.now.params.now names.now.nodes.now names.now.block) expr.now) }
 {
     fault_as(
         check(alloc, expr, names),
         &|fault: ExprFault| -> RuleFault
-            ensures { result ≡ places.fault_at fault.at (spec.kind_of_wrong fault.kind) }
+            ensures { result ≡ spec.rule_fault fault }
         { fault_at(fault.at, kind_of_wrong(fault.kind)) },
     )
 }

@@ -1,9 +1,10 @@
 //! The sizes that rules keep.
 
-ghost use Rattle.std.specs.Prelude.{◌≡◌, ◌++◌, ◌&&◌, IfOk, OnOk, length, nat_le, not};
+ghost use Rattle.std.specs.Prelude.{◌≡◌, ◌++◌, ◌&&◌, IfOk, OnOk, length, not};
 ghost use Rattle.std.specs.List.{filter, list_all};
 ghost use Rattle.hs_expr.specs.Steps.{Gives};
 ghost use Rattle.hs_expr.specs.Verdict.{fault_if, verdict};
+ghost use Rattle.hs_faults.specs.Depths.{is_complete};
 ghost use Rattle.hs_faults.specs.Places.{fault_at};
 ghost use Rattle.hs_faults.specs.Sizes as spec;
 ghost use Rattle.hs_faults.specs.StatementFaults.{same_block};
@@ -12,7 +13,7 @@ use crate::edges::same_block;
 use crate::fault::{RuleFault, RuleFaultKind, fault_at};
 use crate::nodes::{BlockId, DeclaredNode};
 use crate::numbers::count_in;
-use crate::statements::{Statement, StatementKind};
+use crate::statements::{CheckedStatement, Statement, StatementKind};
 use hs_expr::{Failure, List, Name, demand};
 use hs_text::{Item, Param, Rule};
 use hs_types::limits::{
@@ -21,21 +22,21 @@ use hs_types::limits::{
 };
 use std::alloc::{AllocError, Global};
 
-/// The fault of a rule that doesn't keep the limits. Whether its expressions nest few is known.
+/// The fault of a rule that doesn't keep the limits.
 pub fn check_sizes(
     alloc: Global,
     rule: &Rule,
     nodes: &[DeclaredNode],
     statements: &[Statement<'_>],
-    flat: bool,
+    checked: &[CheckedStatement<'_>],
 ) -> Result<(), Failure<RuleFault>>
     ensures { Gives result (verdict (fault_if
         (not (spec.sizes_fit rule.now.params (spec.blocks rule.now.items) nodes.now statements.now
-        && flat))
+        && list_all is_complete checked.now))
         (fault_at rule.now.name.span RuleFaultKind.Limit))) }
 {
     let blocks = blocks(alloc, rule.items.as_slice())?;
-    let keeps = keeps_limits(rule, blocks.as_slice(), nodes, statements, flat);
+    let keeps = keeps_limits(rule, blocks.as_slice(), nodes, statements, checked);
     demand(keeps, fault_at(rule.name.span, RuleFaultKind::Limit))
 }
 
@@ -44,12 +45,28 @@ fn keeps_limits(
     blocks: &[BlockId],
     nodes: &[DeclaredNode],
     statements: &[Statement<'_>],
-    flat: bool,
+    checked: &[CheckedStatement<'_>],
 ) -> bool
     ensures { result ≡ (spec.sizes_fit rule.now.params blocks.now nodes.now statements.now
-        && flat) }
+        && list_all is_complete checked.now) }
 {
-    sizes_fit(rule.params.as_slice(), blocks, nodes, statements) && flat
+    sizes_fit(rule.params.as_slice(), blocks, nodes, statements) && are_complete(checked)
+}
+
+/// Whether no expression is missing, as one does that nests deep.
+fn are_complete(checked: &[CheckedStatement<'_>]) -> bool
+    ensures { result ≡ list_all is_complete checked.now }
+{
+    checked.iter().all(|statement| is_complete(statement))
+}
+
+fn is_complete(checked: &CheckedStatement<'_>) -> bool
+    ensures { result ≡ is_complete checked.now }
+{
+    match checked.statement.kind {
+        StatementKind::Edge { .. } => true,
+        StatementKind::Set { .. } | StatementKind::Where { .. } => checked.expr.is_some(),
+    }
 }
 
 /// The forbid, require and multi blocks among the items.

@@ -1,11 +1,12 @@
-//! The edges, sets and conditions of a rule, in written order.
+//! The edges, sets and conditions of a rule, in written order, with their expressions.
 
-ghost use Rattle.std.specs.Prelude.{◌≡◌, ◌++◌, [], List, IfOk, OnOk, is_some, true};
+ghost use Rattle.std.specs.Prelude.{◌≡◌, ◌++◌, [], List, IfOk, OnOk, is_some};
 ghost use Rattle.std.specs.List.{list_all};
 ghost use Rattle.hs_expr.specs.Steps.{GivesBy};
 ghost use Rattle.hs_expr.specs.Verdict.{verdict};
 ghost use Rattle.hs_expr.specs.Steps.{GivesWhere};
-ghost use Rattle.hs_faults.specs.Depths.{is_flat};
+ghost use Rattle.hs_faults.specs.Contents.{checked_statements, expr_found, statement_expr};
+ghost use Rattle.hs_faults.specs.Depths.{has_expr, is_complete, is_flat, nests_few};
 ghost use Rattle.hs_faults.specs.Numbers.{data_params};
 ghost use Rattle.hs_faults.specs.StatementKinds.{statement_at};
 ghost use Rattle.hs_faults.specs.StatementFaults as spec;
@@ -16,9 +17,9 @@ use crate::edges::{check_edge, same_block, visible_node};
 use crate::fault::{RuleFault, RuleFaultKind, fault_at};
 use crate::name_index::{DataIndex, NameIndex, NodeIndex};
 use crate::scope::{RuleScope, attribute_of, check_expr};
-use crate::statements::{Statement, StatementKind};
+use crate::statements::{CheckedStatement, Statement, StatementKind};
 use crate::written::{Written, is_set_before, set_slot};
-use hs_expr::{Failure, Kind, Name, NameExpr, Span, demand, needed};
+use hs_expr::{Expr, Failure, Kind, List, Name, NameExpr, Span, demand, needed};
 use hs_text::{Mark, Param};
 use hs_types::Meta;
 use std::alloc::Global;
@@ -34,7 +35,7 @@ pub fn same_kind(one: Kind, other: Kind) -> bool
     }
 }
 
-/// Whether the value that is set nests few, or the first fault of the set.
+/// The value that is set, by numbers where it nests few, or the first fault of the set.
 #[tactic(auto, unfolding(crate::specs::StatementFaults::set_checked))]
 fn check_set(
     alloc: Global,
@@ -43,13 +44,16 @@ fn check_set(
     node: &Name,
     attribute: &Name,
     value: &NameExpr,
-) -> Result<bool, Failure<RuleFault>>
+) -> Result<Option<Expr>, Failure<RuleFault>>
     ensures fault { (slots : List spec.Slot) → HasSlots written.now slots
-        → GivesBy (λ flat. tt) result
+        → GivesBy (λ expr. tt) result
         (spec.set_checked names.now.meta.now names.now.params.now names.now.nodes.now slots
         names.now.block node.now attribute.now value.now) }
-    ensures depth { IfOk result (λ flat. flat ≡ spec.is_shallow (spec.rule_scope names.now.meta.now
-        names.now.params.now names.now.nodes.now names.now.block) value.now) }
+    ensures expr { IfOk result (λ expr. expr ≡ expr_found (spec.expr_checked (spec.rule_scope
+        names.now.meta.now names.now.params.now names.now.nodes.now names.now.block) value.now)) }
+    ensures depth { IfOk result (λ expr. is_some expr ≡ nests_few (spec.expr_checked
+        (spec.rule_scope names.now.meta.now names.now.params.now names.now.nodes.now
+        names.now.block) value.now)) }
 {
     let target = visible_node(names.nodes, names.block, node)?;
     demand(
@@ -73,48 +77,54 @@ fn check_set(
         same_kind(found.kind, wanted),
         fault_at(attribute.span, RuleFaultKind::BadKind),
     )?;
-    Ok(found.expr.is_some())
+    Ok(found.expr)
 }
 
-/// Whether the condition nests few, or its first fault.
+/// The condition by numbers, where it nests few, or its first fault.
 #[tactic(auto, unfolding(crate::specs::StatementFaults::where_checked))]
 fn check_where(
     alloc: Global,
     names: &RuleScope<'_, '_, '_>,
     word: Span,
     test: &NameExpr,
-) -> Result<bool, Failure<RuleFault>>
-    ensures fault { GivesBy (λ flat. tt) result
+) -> Result<Option<Expr>, Failure<RuleFault>>
+    ensures fault { GivesBy (λ expr. tt) result
         (spec.where_checked names.now.meta.now names.now.params.now names.now.nodes.now
         names.now.block word test.now) }
-    ensures depth { IfOk result (λ flat. flat ≡ spec.is_shallow (spec.rule_scope names.now.meta.now
-        names.now.params.now names.now.nodes.now names.now.block) test.now) }
+    ensures expr { IfOk result (λ expr. expr ≡ expr_found (spec.expr_checked (spec.rule_scope
+        names.now.meta.now names.now.params.now names.now.nodes.now names.now.block) test.now)) }
+    ensures depth { IfOk result (λ expr. is_some expr ≡ nests_few (spec.expr_checked
+        (spec.rule_scope names.now.meta.now names.now.params.now names.now.nodes.now
+        names.now.block) test.now)) }
 {
     let found = check_expr(alloc, names, test)?;
     demand(
         same_kind(found.kind, Kind::Bool),
         fault_at(word, RuleFaultKind::BadKind),
     )?;
-    Ok(found.expr.is_some())
+    Ok(found.expr)
 }
 
-/// Whether the statement's expression nests few, or its first fault. The slot that it sets joins
-/// those that are set.
+/// The statement's expression by numbers, where it has one that nests few, or the first fault. The
+/// slot that it sets joins those that are set.
 fn check_statement<'a>(
     alloc: Global,
     names: &RuleScope<'_, '_, '_>,
     written: &mut Written<'a>,
     kind: &StatementKind<'a>,
-) -> Result<bool, Failure<RuleFault>>
+) -> Result<Option<Expr>, Failure<RuleFault>>
     ensures fault { (slots : List spec.Slot) → HasSlots written.old slots
-        → GivesBy (λ flat. tt) result
+        → GivesBy (λ expr. tt) result
         (spec.statement_checked names.now.meta.now names.now.params.now names.now.nodes.now slots
         (statement_at names.now.block kind.now)) }
     ensures slots { (slots : List spec.Slot) → HasSlots written.old slots
         → OnOk result (HasSlots written.new
         (slots ++ spec.slot_set_by (statement_at names.now.block kind.now))) }
-    ensures depth { IfOk result
-        (λ flat. flat ≡ is_flat names.now.meta.now names.now.params.now names.now.nodes.now
+    ensures expr { IfOk result
+        (λ expr. expr ≡ statement_expr names.now.meta.now names.now.params.now names.now.nodes.now
+        (statement_at names.now.block kind.now)) }
+    ensures depth { IfOk result (λ expr. has_expr expr (statement_at names.now.block kind.now)
+        ≡ is_flat names.now.meta.now names.now.params.now names.now.nodes.now
         (statement_at names.now.block kind.now)) }
 {
     match kind {
@@ -133,33 +143,34 @@ fn check_statement<'a>(
                 target,
                 reference,
             )?;
-            Ok(true)
+            Ok(None)
         }
         StatementKind::Set {
             node,
             attribute,
             value,
         } => {
-            let flat = check_set(alloc, names, written, node, attribute, value)?;
+            let expr = check_set(alloc, names, written, node, attribute, value)?;
             set_slot(alloc, written, node.text.as_str(), attribute.text.as_str())?;
-            Ok(flat)
+            Ok(expr)
         }
         StatementKind::Where { word, test } => check_where(alloc, names, *word, test),
     }
 }
 
-/// Whether all expressions of the statements nest few, or the first fault of the statements.
-pub fn check_statements(
+/// The statements with their expressions, or the first fault of the statements.
+pub fn check_statements<'a>(
     alloc: Global,
     meta: &Meta,
     params: &[Param],
     nodes: &NodeIndex<'_>,
-    statements: &[Statement<'_>],
-) -> Result<bool, Failure<RuleFault>>
-    ensures { GivesWhere (λ flat. flat
-        ≡ list_all (is_flat meta.now (data_params params.now) nodes.now) statements.now) result
-        (verdict (spec.statement_faults meta.now (data_params params.now) nodes.now []
-        statements.now)) }
+    statements: &[Statement<'a>],
+) -> Result<List<CheckedStatement<'a>>, Failure<RuleFault>>
+    ensures checked { GivesWhere (λ checked. checked ≡ checked_statements meta.now
+        (data_params params.now) nodes.now statements.now) result (verdict
+        (spec.statement_faults meta.now (data_params params.now) nodes.now [] statements.now)) }
+    ensures depth { IfOk result (λ checked. list_all is_complete checked
+        ≡ list_all (is_flat meta.now (data_params params.now) nodes.now) statements.now) }
 {
     let given = data_params(alloc, params)?;
     let index = NameIndex::of(alloc, given.as_slice())?;
@@ -173,13 +184,15 @@ fn check_each_statement<'a>(
     params: &DataIndex<'_>,
     nodes: &NodeIndex<'_>,
     statements: &[Statement<'a>],
-) -> Result<bool, Failure<RuleFault>>
-    ensures { GivesWhere
-        (λ flat. flat ≡ list_all (is_flat meta.now params.now nodes.now) statements.now) result
-        (verdict (spec.statement_faults meta.now params.now nodes.now [] statements.now)) }
+) -> Result<List<CheckedStatement<'a>>, Failure<RuleFault>>
+    ensures checked { GivesWhere (λ checked. checked
+        ≡ checked_statements meta.now params.now nodes.now statements.now) result (verdict
+        (spec.statement_faults meta.now params.now nodes.now [] statements.now)) }
+    ensures depth { IfOk result (λ checked. list_all is_complete checked
+        ≡ list_all (is_flat meta.now params.now nodes.now) statements.now) }
 {
     let mut written = Written::new(alloc);
-    let mut flat = true;
+    let mut checked = List::new(alloc);
     for statement in statements {
         let names = RuleScope {
             meta,
@@ -187,8 +200,14 @@ fn check_each_statement<'a>(
             nodes,
             block: statement.block,
         };
-        let one = check_statement(alloc, &names, &mut written, &statement.kind)?;
-        flat = flat && one;
+        let expr = check_statement(alloc, &names, &mut written, &statement.kind)?;
+        checked.push(CheckedStatement {
+            statement: Statement {
+                block: statement.block,
+                kind: statement.kind,
+            },
+            expr,
+        })?;
     }
-    Ok(flat)
+    Ok(checked)
 }

@@ -6,7 +6,7 @@ ghost use Rattle.hs_faults.specs.StatementKinds.{statement_at};
 ghost use Rattle.hs_faults.specs.Statements as spec;
 
 use crate::nodes::BlockId;
-use hs_expr::{List, Name, NameExpr, Span};
+use hs_expr::{Expr, List, Name, NameExpr, Span};
 use hs_text::{Element, Item, Mark, Simple};
 use std::alloc::{AllocError, Global};
 use std::marker::Model;
@@ -46,6 +46,13 @@ impl<'a> Model for Statement<'a> {
     ghost Value = { spec.Statement };
 
     ghost view = { λ statement. statement_at statement.block statement.kind };
+}
+
+/// A statement with its expression by numbers, where it has one that nests at most 32 deep.
+#[derive(Drop)]
+pub struct CheckedStatement<'a> {
+    pub statement: Statement<'a>,
+    pub expr: Option<Expr>,
 }
 
 /// All statements of the items, in written order.

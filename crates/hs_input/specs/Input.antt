@@ -7,7 +7,6 @@ use Rattle.hs_expr.specs.Verdict.{verdict}
 use Rattle.hs_text.specs.declared.syntax.Syntax.{Syntax}
 use Rattle.hs_text.specs.Parsing.{IsSyntaxOf}
 use Rattle.hs_types.specs.declared.request.Request.{Request}
-use Rattle.hs_types.specs.Journal.{meta_of}
 use Rattle.hs_json.specs.Reading.{Contents, IsBundleAnswer}
 use Rattle.hs_faults.specs.UnitFaults.{faults_of}
 use Rattle.hs_check.specs.Meaning.{IsMeant}
@@ -38,6 +37,6 @@ pub record IsBuilt (bytes : List ℕ) (held : Contents) (syntax : Syntax)
 pub record IsInput (bytes : List ℕ) (held : Contents) (input : Input) : Type 0 where
   pub is_built : IsBuilt bytes held input.syntax input.sessions
   pub is_meant : IsMeant held.meta input.syntax.definitions input.rules
-  pub same_model : meta_of input.rules ≡ held.meta
+  pub same_model : input.rules.meta ≡ held.meta
   pub same_meta : arc_value input.graph.meta ≡ held.meta
   pub same_graph : input.graph.graph ≡ held.graph

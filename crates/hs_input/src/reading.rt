@@ -5,7 +5,6 @@ ghost use Rattle.std.specs.Arc.{arc_value};
 ghost use Rattle.std.specs.Str.{chars};
 ghost use Rattle.hs_expr.specs.Verdict.{verdict};
 ghost use Rattle.hs_text.specs.Parsing.{IsSyntaxOf};
-ghost use Rattle.hs_types.specs.Journal.{meta_of};
 ghost use Rattle.hs_json.specs.Reading.{Contents, IsBundleAnswer, contents};
 ghost use Rattle.hs_json_model.specs.Sound.{IsSound};
 ghost use Rattle.hs_faults.specs.UnitFaults.{faults_of};
@@ -102,7 +101,7 @@ fn rules_of(alloc: Global, meta: &Arc<Meta>, syntax: &Syntax) -> Result<RuleSet,
     ensures right { IfOk result
         (λ set. verdict (faults_of (arc_value meta.now) syntax.now.definitions) ≡ Ok tt) }
     ensures meant { IfOk result (IsMeant (arc_value meta.now) syntax.now.definitions) }
-    ensures model { IfOk result (λ set. meta_of set ≡ arc_value meta.now) }
+    ensures model { IfOk result (λ set. set.meta ≡ arc_value meta.now) }
     ensures refused { (bytes : List ℕ) (held : Contents) → held.meta ≡ arc_value meta.now
         → IsBundleAnswer bytes (Ok held) → IsSyntaxOf (chars held.rules) syntax.now
         → Tells bytes result }

@@ -17,6 +17,11 @@ pub Conforms-trans : (m : Metamodel) (a b c : ℕ) → Conforms m a b → Confor
 Conforms-trans m a b c (itself d) k = k
 Conforms-trans m a b c (above e d f s h) k = above a d c s (Conforms-trans m d b c h k)
 
+-- Two classes that conform to each other are one.
+pub Conforms-antisym : (m : Metamodel) (a b : ℕ) → IsMeta m → Conforms m a b → Conforms m b a → a ≡ b
+Conforms-antisym m a b is (itself c) back = refl
+Conforms-antisym m a b is (above c d e step rest) back = absurd (is.no_cycle a d step (Conforms-trans m d b a rest back))
+
 -- A fact that goes down from a class to those that conform to it.
 abbrev pub GoesDown : Metamodel → (ℕ → Type 0) → Type 0
 GoesDown m P = (c d : ℕ) → Conforms m c d → P d → P c

@@ -24,16 +24,16 @@ use Rattle.hs_types.specs.declared.rule.SetItem.{SetItem}
 use Rattle.hs_types.specs.declared.rule.SlotKind.{SlotKind}
 use Rattle.hs_types.specs.declared.rule.SlotKind.TheVariants.{Attribute}
 use Rattle.hs_types.specs.Conditions.{env_of}
-use Rattle.hs_types.specs.Copies.{At, Copy, SparesCopy, copies_of, copy_env, images_of, nodes_of, slots_at, used_slots, written_slots}
+use Rattle.hs_types.specs.Copies.{At, Copy, SparesCopy, copies_of, copy_env, images_of, nodes_of, slots_at, used_slots, written_slots, all_dropped_nodes}
 use Rattle.hs_types.specs.Dangling.{dropped_edges, dropped_nodes}
 use Rattle.hs_expr.specs.Lists.{has, Apart, Differ, EachPair}
 use Rattle.hs_types.specs.Metamodel.{IsMeta, attributes_of}
 use Rattle.hs_types.specs.Pattern.{is_drop, is_keep, is_kind, is_left, is_make, left_edges, left_nodes, node_is}
 use Rattle.hs_types.specs.Plan.{Fits, copy_writes, plan_of, writes_of}
 use Rattle.hs_types.specs.PlainMatch.{Extends, IsImage, image, kernel_of}
-use Rattle.hs_types.specs.RuleForm.{EndFits, IsRule, SetFits, SetOnce, has_slot, is_read, is_set, reads_in, scope_of}
+use Rattle.hs_types.specs.RuleForm.{EndFits, IsRule, SetFits, SetOnce, has_slot, is_among, reads_in, scope_of, slot_of_set, slots_read, slots_set}
 use Rattle.hs_types.specs.TypedGraph.{AreSlotsOf, IsTyped, Stands, edge_at, object_at, value_at, value_in}
-use Rattle.hs_types.specs.ValidMatch.{IsValid, all_dropped_nodes}
+use Rattle.hs_types.specs.ValidMatch.{IsValid}
 use Rattle.hs_laws.proofs.Classes.{Stands-down, attribute-down}
 use Rattle.hs_laws.proofs.Images.{FitsNode, IsLeft, IsLeft-from, image-among, image-at, image-behind, image-injective, joined}
 use Rattle.hs_types.proofs.Lookups.{object_there}
@@ -108,8 +108,8 @@ any_self test r (x ∷ xs) = All-cons (λ z. list_any (λ y. test y z) (x ∷ xs
 abbrev slot_at : ℕ → SlotKind → PatternSlot
 slot_at n kind = record { node = n; kind = kind; written = true }
 
-sets_set : (sets : List SetItem) → All (λ item. is_set sets (slot_at item.node (Attribute item.attribute)) ≡ true) sets
-sets_set sets = any_self (λ a b. eqb a.node b.node && is_kind (Attribute a.attribute) (Attribute b.attribute)) (λ a. and_from (eqb a.node a.node) (is_kind (Attribute a.attribute) (Attribute a.attribute)) (eq-eqb a.node a.node refl) (is_kind-itself (Attribute a.attribute))) sets
+sets_set : (sets : List SetItem) → All (λ item. is_among (slots_set sets) (slot_at item.node (Attribute item.attribute)) ≡ true) sets
+sets_set sets = All-of_map (λ s. is_among (slots_set sets) (slot_at s.node s.kind) ≡ true) slot_of_set sets (any_self (λ a b. eqb a.node b.node && is_kind a.kind b.kind) (λ a. and_from (eqb a.node a.node) (is_kind a.kind a.kind) (eq-eqb a.node a.node refl) (is_kind-itself a.kind)) (slots_set sets))
 
 abbrev place : List PatternNode → List ℕ → ℕ → SlotKind → At
 place nodes images n kind = record { object = image nodes images n; slot = kind }
@@ -118,8 +118,8 @@ place nodes images n kind = record { object = image nodes images n; slot = kind 
 slot-used : (nodes : List PatternNode) (images : List ℕ) (slots : List PatternSlot) (n : ℕ) (kind : SlotKind) → has_slot slots n kind ≡ true → Contains (slots_at nodes images slots) (place nodes images n kind)
 slot-used nodes images slots n kind h = has_slot-all (λ n kind. Contains (slots_at nodes images slots) (place nodes images n kind)) slots n kind (All-of_map (Contains (slots_at nodes images slots)) (λ slot. place nodes images slot.node slot.kind) slots (All-contains_itself (slots_at nodes images slots))) h
 
-slot-written : (nodes : List PatternNode) (images : List ℕ) (sets : List SetItem) (slots : List PatternSlot) (n : ℕ) (kind : SlotKind) → All (λ slot. slot.written ≡ is_set sets slot) slots → has_slot slots n kind ≡ true → is_set sets (slot_at n kind) ≡ true → Contains (slots_at nodes images (filter (λ slot. slot.written) slots)) (place nodes images n kind)
-slot-written nodes images sets slots n kind w h = has_slot-all (λ n kind. is_set sets (slot_at n kind) ≡ true → Contains written (place nodes images n kind)) slots n kind (All-weaker (λ slot. (slot.written ≡ is_set sets slot) × (slot.written ≡ true → Contains written (place nodes images slot.node slot.kind))) (λ slot. is_set sets (slot_at slot.node slot.kind) ≡ true → Contains written (place nodes images slot.node slot.kind)) (λ slot i t. i.1 (i.0 ∙ t)) slots (All-both (λ slot. slot.written ≡ is_set sets slot) (λ slot. slot.written ≡ true → Contains written (place nodes images slot.node slot.kind)) slots w (All-of_filter (λ slot. Contains written (place nodes images slot.node slot.kind)) (λ slot. slot.written) slots (All-of_map (Contains written) (λ slot. place nodes images slot.node slot.kind) (filter (λ slot. slot.written) slots) (All-contains_itself written))))) h
+slot-written : (nodes : List PatternNode) (images : List ℕ) (sets : List SetItem) (slots : List PatternSlot) (n : ℕ) (kind : SlotKind) → All (λ slot. slot.written ≡ is_among (slots_set sets) slot) slots → has_slot slots n kind ≡ true → is_among (slots_set sets) (slot_at n kind) ≡ true → Contains (slots_at nodes images (filter (λ slot. slot.written) slots)) (place nodes images n kind)
+slot-written nodes images sets slots n kind w h = has_slot-all (λ n kind. is_among (slots_set sets) (slot_at n kind) ≡ true → Contains written (place nodes images n kind)) slots n kind (All-weaker (λ slot. (slot.written ≡ is_among (slots_set sets) slot) × (slot.written ≡ true → Contains written (place nodes images slot.node slot.kind))) (λ slot. is_among (slots_set sets) (slot_at slot.node slot.kind) ≡ true → Contains written (place nodes images slot.node slot.kind)) (λ slot i t. i.1 (i.0 ∙ t)) slots (All-both (λ slot. slot.written ≡ is_among (slots_set sets) slot) (λ slot. slot.written ≡ true → Contains written (place nodes images slot.node slot.kind)) slots w (All-of_filter (λ slot. Contains written (place nodes images slot.node slot.kind)) (λ slot. slot.written) slots (All-of_map (Contains written) (λ slot. place nodes images slot.node slot.kind) (filter (λ slot. slot.written) slots) (All-contains_itself written))))) h
   where
     written : List At
     written = slots_at nodes images (filter (λ slot. slot.written) slots)
@@ -177,7 +177,7 @@ record CopyWriteIs (g : Graph) (rule : Rule) (f : Match) (copy : Copy) (w : Writ
   pub written : Contains (written_slots rule (kernel_of f) copy) (record { object = w.object; slot = w.slot })
 
 copy_writes-are : (m : Metamodel) (g : Graph) (rule : Rule) (args : Args) (f : Match) (copy : Copy) → IsMeta m → IsTyped m g → IsValid m g rule args f → CopyIs m g rule args (kernel_of f) copy → CopyStays rule f copy → All (CopyWriteIs g rule f copy) (copy_writes g rule args (kernel_of f) copy)
-copy_writes-are m g rule args f copy d t v i stays = writes_each (CopyWriteIs g rule f copy) (copy_env g rule args (kernel_of f) copy) nodes images sets (All-weaker (λ item. ((first ≤ item.node) × SetFits m (scope_of m rule nodes) nodes item) × (K item × T item)) (λ item. not (node_is is_make nodes item.node) ≡ true → (u : Value) → CopyWriteIs g rule f copy (write item u)) (λ item j k u. each item j.0.0 j.0.1 j.1.0 j.1.1 k u) sets (All-both (λ item. (first ≤ item.node) × SetFits m (scope_of m rule nodes) nodes item) (λ item. K item × T item) sets i.multi.sets_fit (All-both K T sets i.multi.slots.all_set (sets_set sets))))
+copy_writes-are m g rule args f copy d t v i stays = writes_each (CopyWriteIs g rule f copy) (copy_env g rule args (kernel_of f) copy) nodes images sets (All-weaker (λ item. ((first ≤ item.node) × SetFits m (scope_of m rule nodes) nodes item) × (K item × T item)) (λ item. not (node_is is_make nodes item.node) ≡ true → (u : Value) → CopyWriteIs g rule f copy (write item u)) (λ item j k u. each item j.0.0 j.0.1 j.1.0 j.1.1 k u) sets (All-both (λ item. (first ≤ item.node) × SetFits m (scope_of m rule nodes) nodes item) (λ item. K item × T item) sets i.multi.sets_fit (All-both K T sets (All-of_map (λ s. node_is is_keep nodes s.node ≡ true → has_slot slots s.node s.kind ≡ true) slot_of_set sets i.multi.slots.all_written) (sets_set sets))))
   where
     first : ℕ
     first = length rule.shape.nodes
@@ -201,7 +201,7 @@ copy_writes-are m g rule args f copy d t v i stays = writes_each (CopyWriteIs g 
     K item = node_is is_keep nodes item.node ≡ true → has_slot slots item.node (Attribute item.attribute) ≡ true
 
     T : SetItem → Type 0
-    T item = is_set sets (slot_at item.node (Attribute item.attribute)) ≡ true
+    T item = is_among (slots_set sets) (slot_at item.node (Attribute item.attribute)) ≡ true
 
     each : (item : SetItem) → first ≤ item.node → SetFits m (scope_of m rule nodes) nodes item → K item → T item → not (node_is is_make nodes item.node) ≡ true → (u : Value) → CopyWriteIs g rule f copy (write item u)
     each item l s k set made u =
@@ -218,7 +218,7 @@ copy_writes-are m g rule args f copy d t v i stays = writes_each (CopyWriteIs g 
             owned = subst (λ (j : ℕ). has copy.found.nodes j ≡ true) (sym same) (image-among (FitsNode m g) copy.multi.shape.nodes copy.found.nodes (n - first) ext.nodes_fit (IsLeft-from copy.multi.shape.nodes (n - first) x.0 at x.2));
           };
           used = slot-used nodes images slots n (Attribute item.attribute) slot;
-          written = slot-written nodes images sets slots n (Attribute item.attribute) (All-weaker (λ slot. (is_read (reads_in copy.multi.wheres copy.multi.sets) slot || is_set sets slot ≡ true) × (slot.written ≡ is_set sets slot)) (λ slot. slot.written ≡ is_set sets slot) (λ slot j. j.1) slots i.multi.slots.needed) slot set;
+          written = slot-written nodes images sets slots n (Attribute item.attribute) (All-weaker (λ slot. (is_among (slots_read (reads_in copy.multi.wheres copy.multi.sets)) slot || is_among (slots_set sets) slot ≡ true) × (slot.written ≡ is_among (slots_set sets) slot)) (λ slot. slot.written ≡ is_among (slots_set sets) slot) (λ slot j. j.1) slots i.multi.slots.needed) slot set;
         }
 
 -- Two writes to different slots.

@@ -1,7 +1,7 @@
 -- Matches and extensions in the graph after a step.
 use Rattle.std.proofs.Common.{ℕ, ◌+◌, ◌<◌, ◌≡◌, inl, inr, List, [], ◌∷◌, ◌++◌, true, false, not, ◌||◌, ◌&&◌, eqb, Some, refl, ap, subst}
 use Rattle.std.specs.List.{All, AllZip, filter, list_any}
-use Rattle.std.proofs.lemmas.Bool.{eq-eqb, both_ways, eqb-true, or_cases, or_from, and_right, and_parts}
+use Rattle.std.proofs.lemmas.Bool.{eq-eqb, both_ways, eqb-true, or_cases, or_from, or_parts, and_right, and_parts}
 use Rattle.std.proofs.lemmas.List.Elements.{All-nil, All-cons, All-head, All-tail, All-append, All-filter}
 use Rattle.hs_types.specs.declared.graph.Edge.{Edge}
 use Rattle.hs_types.specs.declared.graph.Graph.{Graph}
@@ -118,9 +118,11 @@ has_slot-all P (slot ∷ slots) n kind a h = elim (or_cases (eqb slot.node n && 
 ]
 
 -- A kind that is not written is not written at any object.
-pub unwritten_kind : (n : ℕ) (kind : SlotKind) (writes : List Write) → All (λ write. is_kind write.slot kind ≡ false) writes → list_any (is_to n kind) writes ≡ false
+pub unwritten_kind : (n : ℕ) (kind : SlotKind) (writes : List Write) → list_any (λ write. is_kind write.slot kind) writes ≡ false → list_any (is_to n kind) writes ≡ false
 unwritten_kind n kind [] a = refl
-unwritten_kind n kind (w ∷ ws) a = or_from (is_to n kind w) (list_any (is_to n kind) ws) (and_right (eqb w.object n) (is_kind w.slot kind) (All-head (λ write. is_kind write.slot kind ≡ false) w ws a)) (unwritten_kind n kind ws (All-tail (λ write. is_kind write.slot kind ≡ false) w ws a))
+unwritten_kind n kind (w ∷ ws) a =
+    let parts = or_parts (is_kind w.slot kind) (list_any (λ write. is_kind write.slot kind) ws) a in
+    or_from (is_to n kind w) (list_any (is_to n kind) ws) (and_right (eqb w.object n) (is_kind w.slot kind) parts.0) (unwritten_kind n kind ws parts.1)
 
 -- A slot of an image that stays keeps its value where it is not written.
 pub value-stays : (m : Metamodel) (g : Graph) (p : Plan) (nodes : List PatternNode) (images : List ℕ) (n : ℕ) (slot : SlotKind) → AllZip (FitsNode m g) (left_nodes nodes) images → Apart images p.drop_objects → IsLeft nodes n → list_any (is_to (image nodes images n) slot) p.writes ≡ false → value_at (step g p) (image nodes images n) slot ≡ value_at g (image nodes images n) slot

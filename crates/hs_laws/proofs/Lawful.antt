@@ -4,7 +4,8 @@ use Rattle.std.specs.List.{All, fold, range_with_len}
 use Rattle.std.specs.Option.{option_map, unwrap_or}
 use Rattle.std.proofs.lemmas.Bool.{cases_lt}
 use Rattle.std.proofs.lemmas.List.{take-append-le, take_all}
-use Rattle.std.proofs.lemmas.List.Elements.{All-head, All-tail}
+use Rattle.std.proofs.lemmas.List.Sums.{fold-append}
+use Rattle.std.proofs.lemmas.List.Elements.{All-weaker, All-head, All-tail}
 use Rattle.hs_expr.proofs.Items.{slice_get-take}
 use Rattle.hs_types.specs.declared.entry.Cause.{Cause}
 use Rattle.hs_types.specs.declared.entry.Cause.TheVariants as cause
@@ -19,8 +20,9 @@ use Rattle.hs_types.specs.declared.matching.Match.{Match}
 use Rattle.hs_types.specs.declared.meta.Metamodel.{Metamodel}
 use Rattle.hs_types.specs.declared.request.Args.{Args}
 use Rattle.hs_types.specs.declared.rule.Rule.{Rule}
-use Rattle.hs_types.specs.declared.rule_set.RuleSet.{RuleSet}
-use Rattle.hs_types.specs.Journal.{AreLawfulTries, Asks, EntryFailsBy, IsLawful, IsLawfulEntry, IsLawfulTry, IsLawfulWritten, IsUnlawfulAt, OneFailsBy, OutcomeAsks, after_entry, after_journal, after_outcome, after_tries, after_try, after_what, match_named, meta_of, rule_of, tries_in, IsNumbered, rank, FailsBy}
+use Rattle.hs_types.specs.Limits.{IsSmallRule}
+use Rattle.hs_types.specs.Rules.{AreFormed, Rules}
+use Rattle.hs_types.specs.Journal.{AreLawfulTries, Asks, EntryFailsBy, IsLawful, IsLawfulEntry, IsLawfulTry, IsLawfulWritten, IsUnlawfulAt, OneFailsBy, OutcomeAsks, after_entry, after_journal, after_outcome, after_tries, after_try, after_what, match_named, rule_of, tries_in, IsNumbered, rank, FailsBy}
 use Rattle.hs_types.specs.Metamodel.{IsMeta}
 use Rattle.hs_types.specs.Plan.{plan_of}
 use Rattle.hs_types.specs.RuleForm.{IsRule}
@@ -31,10 +33,10 @@ use Rattle.hs_expr.proofs.Lists.{slice_get-first, slice_get-last}
 use Rattle.hs_laws.proofs.Planned.{IsTyped-applied}
 
 -- What an attempt that missed leaves.
-pub after_try-missed : (rules : RuleSet) (g : Graph) (tried : Tried) → tried.outcome ≡ Missed → after_try rules g tried ≡ g
+pub after_try-missed : (rules : Rules) (g : Graph) (tried : Tried) → tried.outcome ≡ Missed → after_try rules g tried ≡ g
 after_try-missed rules g tried e = go (rule_of rules tried)
   where
-    go : (o : Option Rule) → unwrap_or (option_map (λ rule. after_outcome (meta_of rules) g rule tried.args tried.outcome) o) g ≡ g
+    go : (o : Option Rule) → unwrap_or (option_map (λ rule. after_outcome rules.meta g rule tried.args tried.outcome) o) g ≡ g
     go None = refl
     go (Some rule) = rw e refl
 
@@ -68,14 +70,14 @@ take_none (y ∷ ys) zero h = absurd (cc)
 take_none (y ∷ ys) (suc n) h = ap (λ l. y ∷ l) (take_none ys n h)
 
 -- A prefix of a lawful journal is lawful.
-pub IsLawful-take : (rules : RuleSet) (g : Graph) (entries : List Entry) (n : ℕ) → IsLawful rules g entries → IsLawful rules g (take n entries)
+pub IsLawful-take : (rules : Rules) (g : Graph) (entries : List Entry) (n : ℕ) → IsLawful rules g entries → IsLawful rules g (take n entries)
 IsLawful-take rules g entries n h place = elim (cases_lt place n) [
   | inl l ↦ rw (slice_get-take entries n place l, take-take entries n place (omega arith)) (h place)
   | inr l ↦ rw (slice_get-taken entries n place l) tt
 ]
 
 -- A lawful journal with one more entry that is lawful after it is lawful.
-pub IsLawful-push : (rules : RuleSet) (g : Graph) (entries : List Entry) (entry : Entry) → IsLawful rules g entries → IsLawfulEntry rules entries (after_journal rules g entries) (length entries) entry → IsLawful rules g (entries ++ entry ∷ [])
+pub IsLawful-push : (rules : Rules) (g : Graph) (entries : List Entry) (entry : Entry) → IsLawful rules g entries → IsLawfulEntry rules entries (after_journal rules g entries) (length entries) entry → IsLawful rules g (entries ++ entry ∷ [])
 IsLawful-push rules g entries entry h k place = elim (cases_lt place (length entries)) [
   | inl l ↦ rw (slice_get-first entries (entry ∷ []) place l, take-append-le place entries (entry ∷ []) (omega arith)) (h place)
   | inr l ↦ elim (cases_lt (length entries) place) [
@@ -109,11 +111,11 @@ after_outcome-typed m g rule args (Applied found new old gone) d w t h = go (mat
     go None v = absurd v
     go (Some f) v = IsTyped-applied m g rule args f d w t v
 
-pub after_try-typed : (rules : RuleSet) (g : Graph) (tried : Tried) → IsMeta (meta_of rules) → All (IsRule (meta_of rules)) rules.rules → IsTyped (meta_of rules) g → IsLawfulTry rules g tried → IsTyped (meta_of rules) (after_try rules g tried)
+pub after_try-typed : (rules : Rules) (g : Graph) (tried : Tried) → IsMeta rules.meta → All (IsRule rules.meta) rules.rules → IsTyped rules.meta g → IsLawfulTry rules g tried → IsTyped rules.meta (after_try rules g tried)
 after_try-typed rules g tried d ws t h = go (rule_of rules tried) refl
   where
     m : Metamodel
-    m = meta_of rules
+    m = rules.meta
 
     asked : (rule : Rule) → rule_of rules tried ≡ Some rule → (c : Cause) → OutcomeAsks m g rule tried.args tried.outcome c
     asked rule e cause.Number = let k : Asks rules g tried cause.Number = h cause.Number in rw e at k
@@ -136,42 +138,42 @@ after_try-typed rules g tried d ws t h = go (rule_of rules tried) refl
         found (x ∷ xs) zero rule a e = let same : x ≡ rule = cc in subst (IsRule m) same (All-head (IsRule m) x xs a)
         found (x ∷ xs) (suc i) rule a e = found xs i rule (All-tail (IsRule m) x xs a) e
 
-pub after_tries-typed : (rules : RuleSet) (g : Graph) (tries : List Tried) → IsMeta (meta_of rules) → All (IsRule (meta_of rules)) rules.rules → IsTyped (meta_of rules) g → AreLawfulTries rules g tries → IsTyped (meta_of rules) (after_tries rules g tries)
+pub after_tries-typed : (rules : Rules) (g : Graph) (tries : List Tried) → IsMeta rules.meta → All (IsRule rules.meta) rules.rules → IsTyped rules.meta g → AreLawfulTries rules g tries → IsTyped rules.meta (after_tries rules g tries)
 after_tries-typed rules g [] d ws t h = t
 after_tries-typed rules g (tried ∷ tries) d ws t h = after_tries-typed rules (after_try rules g tried) tries d ws (after_try-typed rules g tried d ws t h.0) h.1
 
-pub after_what-typed : (rules : RuleSet) (g : Graph) (what : What) → IsMeta (meta_of rules) → All (IsRule (meta_of rules)) rules.rules → IsTyped (meta_of rules) g → AreLawfulTries rules g (tries_in what) → IsTyped (meta_of rules) (after_what rules g what)
+pub after_what-typed : (rules : Rules) (g : Graph) (what : What) → IsMeta rules.meta → All (IsRule rules.meta) rules.rules → IsTyped rules.meta g → AreLawfulTries rules g (tries_in what) → IsTyped rules.meta (after_what rules g what)
 after_what-typed rules g (One tried) d ws t h = after_try-typed rules g tried d ws t h.0
 after_what-typed rules g (Group attempts false) d ws t h = t
 after_what-typed rules g (Group attempts true) d ws t h = after_tries-typed rules g attempts d ws t h
 
-fold-push : {A B : Type 0} (f : B → A → B) (b : B) (xs : List A) (x : A) → fold f b (xs ++ x ∷ []) ≡ f (fold f b xs) x
-fold-push f b [] x = refl
-fold-push f b (y ∷ ys) x = fold-push f (f b y) ys x
+-- The rules of rules in their form.
+pub rules_of : (rules : Rules) → AreFormed rules → All (IsRule rules.meta) rules.rules
+rules_of rules formed = All-weaker (λ rule. IsRule rules.meta rule × IsSmallRule rule) (IsRule rules.meta) (λ rule h. h.0) rules.rules formed.2.are_rules
 
-pub after_journal-push : (rules : RuleSet) (g : Graph) (entries : List Entry) (entry : Entry) → after_journal rules g (entries ++ entry ∷ []) ≡ after_entry rules (after_journal rules g entries) entry
-after_journal-push rules g entries entry = fold-push (after_entry rules) g entries entry
+pub after_journal-push : (rules : Rules) (g : Graph) (entries : List Entry) (entry : Entry) → after_journal rules g (entries ++ entry ∷ []) ≡ after_entry rules (after_journal rules g entries) entry
+after_journal-push rules g entries entry = fold-append (after_entry rules) g entries (entry ∷ [])
 
 -- The graph at each place of a lawful journal is typed.
-pub after_journal-typed : (rules : RuleSet) (g : Graph) (entries : List Entry) (n : ℕ) → IsMeta (meta_of rules) → All (IsRule (meta_of rules)) rules.rules → IsTyped (meta_of rules) g → IsLawful rules g entries → IsTyped (meta_of rules) (after_journal rules g (take n entries))
+pub after_journal-typed : (rules : Rules) (g : Graph) (entries : List Entry) (n : ℕ) → IsMeta rules.meta → All (IsRule rules.meta) rules.rules → IsTyped rules.meta g → IsLawful rules g entries → IsTyped rules.meta (after_journal rules g (take n entries))
 after_journal-typed rules g entries zero d ws t h = start entries
   where
-    start : (es : List Entry) → IsTyped (meta_of rules) (after_journal rules g (take 0 es))
+    start : (es : List Entry) → IsTyped rules.meta (after_journal rules g (take 0 es))
     start [] = t
     start (e ∷ es) = t
 after_journal-typed rules g entries (suc n) d ws t h = go (after_journal-typed rules g entries n d ws t h) (slice_get entries n) refl
   where
     m : Metamodel
-    m = meta_of rules
+    m = rules.meta
 
     go : IsTyped m (after_journal rules g (take n entries)) → (o : Option Entry) → slice_get entries n ≡ o → IsTyped m (after_journal rules g (take (suc n) entries))
     go before None e = rw (take_none entries n e) before
     go before (Some entry) e =
         let lawful : IsLawfulEntry rules (take n entries) (after_journal rules g (take n entries)) n entry = rw e at (h n) in
-        rw (take_next entries n entry e, fold-push (after_entry rules) g (take n entries) entry) (after_what-typed rules (after_journal rules g (take n entries)) entry.what d ws before lawful.tries)
+        rw (take_next entries n entry e, fold-append (after_entry rules) g (take n entries) (entry ∷ [])) (after_what-typed rules (after_journal rules g (take n entries)) entry.what d ws before lawful.tries)
 
 -- An attempt that fails by a cause is not lawful, and so on for all attempts.
-pub OneFailsBy-unlawful : (rules : RuleSet) (g : Graph) (tries : List Tried) (asked : Cause) → OneFailsBy rules g tries asked → AreLawfulTries rules g tries → ⊥
+pub OneFailsBy-unlawful : (rules : Rules) (g : Graph) (tries : List Tried) (asked : Cause) → OneFailsBy rules g tries asked → AreLawfulTries rules g tries → ⊥
 OneFailsBy-unlawful rules g [] asked f h = f
 OneFailsBy-unlawful rules g (tried ∷ tries) asked (inl f) h = f.unmet (h.0 asked)
 OneFailsBy-unlawful rules g (tried ∷ tries) asked (inr f) h = OneFailsBy-unlawful rules (after_try rules g tried) tries asked f.1 h.1
@@ -193,7 +195,7 @@ slice_get-range a (suc n) zero k h = let same : a ≡ k = cc in omega arith
 slice_get-range a (suc n) (suc i) k h = omega (arith, slice_get-range (a + 1) n i k h)
 
 -- An entry that fails by a cause isn't lawful there.
-EntryFailsBy-unlawful : (rules : RuleSet) (before : List Entry) (g : Graph) (place : ℕ) (entry : Entry) (asked : Cause) → EntryFailsBy rules before g place entry asked → IsLawfulEntry rules before g place entry → ⊥
+EntryFailsBy-unlawful : (rules : Rules) (before : List Entry) (g : Graph) (place : ℕ) (entry : Entry) (asked : Cause) → EntryFailsBy rules before g place entry asked → IsLawfulEntry rules before g place entry → ⊥
 EntryFailsBy-unlawful rules before g place entry cause.Number f h = f h.numbered
 EntryFailsBy-unlawful rules before g place entry cause.Rule f h = OneFailsBy-unlawful rules g (tries_in entry.what) cause.Rule f.1 h.tries
 EntryFailsBy-unlawful rules before g place entry cause.Match f h = OneFailsBy-unlawful rules g (tries_in entry.what) cause.Match f.1 h.tries
@@ -202,7 +204,7 @@ EntryFailsBy-unlawful rules before g place entry cause.New f h = OneFailsBy-unla
 EntryFailsBy-unlawful rules before g place entry cause.Old f h = OneFailsBy-unlawful rules g (tries_in entry.what) cause.Old f.1 h.tries
 
 -- A written journal isn't both lawful and unlawful somewhere.
-pub IsUnlawfulAt-unlawful : (rules : RuleSet) (opening : Graph) (written : List (ℕ × Entry)) (position : ℕ) (asked : Cause) → IsUnlawfulAt rules opening written position asked → IsLawfulWritten rules opening written → ⊥
+pub IsUnlawfulAt-unlawful : (rules : Rules) (opening : Graph) (written : List (ℕ × Entry)) (position : ℕ) (asked : Cause) → IsUnlawfulAt rules opening written position asked → IsLawfulWritten rules opening written → ⊥
 IsUnlawfulAt-unlawful rules opening written position asked u l = go (slice_get written position) refl u.fails
   where
     second : (ℕ × Entry) → Entry
@@ -244,7 +246,7 @@ rank-same c d e = by_number (rank c) c d refl (sym e)
     by_number n c d a b = sym (back c) ∙ (ap cause_at (a ∙ sym b) ∙ back d)
 
 -- An attempt, and a list of them, fails by one cause.
-FailsBy-same : (rules : RuleSet) (g : Graph) (tried : Tried) (c d : Cause) → FailsBy rules g tried c → FailsBy rules g tried d → c ≡ d
+FailsBy-same : (rules : Rules) (g : Graph) (tried : Tried) (c d : Cause) → FailsBy rules g tried c → FailsBy rules g tried d → c ≡ d
 FailsBy-same rules g tried c d f h = elim (cases_lt (rank c) (rank d)) [
   | inl l ↦ absurd (f.unmet (h.met c l))
   | inr l ↦ elim (cases_lt (rank d) (rank c)) [
@@ -253,7 +255,7 @@ FailsBy-same rules g tried c d f h = elim (cases_lt (rank c) (rank d)) [
   ]
 ]
 
-OneFailsBy-same : (rules : RuleSet) (g : Graph) (tries : List Tried) (c d : Cause) → OneFailsBy rules g tries c → OneFailsBy rules g tries d → c ≡ d
+OneFailsBy-same : (rules : Rules) (g : Graph) (tries : List Tried) (c d : Cause) → OneFailsBy rules g tries c → OneFailsBy rules g tries d → c ≡ d
 OneFailsBy-same rules g [] c d f h = absurd f
 OneFailsBy-same rules g (tried ∷ tries) c d (inl f) (inl h) = FailsBy-same rules g tried c d f h
 OneFailsBy-same rules g (tried ∷ tries) c d (inl f) (inr h) = absurd (f.unmet (h.0 c))
@@ -261,7 +263,7 @@ OneFailsBy-same rules g (tried ∷ tries) c d (inr f) (inl h) = absurd (h.unmet 
 OneFailsBy-same rules g (tried ∷ tries) c d (inr f) (inr h) = OneFailsBy-same rules (after_try rules g tried) tries c d f.1 h.1
 
 -- What an entry that fails by a cause other than its numbers says.
-by_tries : (rules : RuleSet) (before : List Entry) (g : Graph) (place : ℕ) (entry : Entry) (c : Cause) → EntryFailsBy rules before g place entry c → (c ≡ cause.Number) ⊎ (IsNumbered before place entry × OneFailsBy rules g (tries_in entry.what) c)
+by_tries : (rules : Rules) (before : List Entry) (g : Graph) (place : ℕ) (entry : Entry) (c : Cause) → EntryFailsBy rules before g place entry c → (c ≡ cause.Number) ⊎ (IsNumbered before place entry × OneFailsBy rules g (tries_in entry.what) c)
 by_tries rules before g place entry cause.Number f = inl refl
 by_tries rules before g place entry cause.Rule f = inr f
 by_tries rules before g place entry cause.Match f = inr f
@@ -269,10 +271,10 @@ by_tries rules before g place entry cause.Valid f = inr f
 by_tries rules before g place entry cause.New f = inr f
 by_tries rules before g place entry cause.Old f = inr f
 
-not_numbered : (rules : RuleSet) (before : List Entry) (g : Graph) (place : ℕ) (entry : Entry) (c : Cause) → c ≡ cause.Number → EntryFailsBy rules before g place entry c → IsNumbered before place entry → ⊥
+not_numbered : (rules : Rules) (before : List Entry) (g : Graph) (place : ℕ) (entry : Entry) (c : Cause) → c ≡ cause.Number → EntryFailsBy rules before g place entry c → IsNumbered before place entry → ⊥
 not_numbered rules before g place entry c e f = let k : EntryFailsBy rules before g place entry cause.Number = subst (EntryFailsBy rules before g place entry) e f in k
 
-EntryFailsBy-same : (rules : RuleSet) (before : List Entry) (g : Graph) (place : ℕ) (entry : Entry) (c d : Cause) → EntryFailsBy rules before g place entry c → EntryFailsBy rules before g place entry d → c ≡ d
+EntryFailsBy-same : (rules : Rules) (before : List Entry) (g : Graph) (place : ℕ) (entry : Entry) (c d : Cause) → EntryFailsBy rules before g place entry c → EntryFailsBy rules before g place entry d → c ≡ d
 EntryFailsBy-same rules before g place entry c d f h = elim (by_tries rules before g place entry c f) [
   | inl a ↦ elim (by_tries rules before g place entry d h) [
     | inl b ↦ a ∙ sym b
@@ -285,13 +287,13 @@ EntryFailsBy-same rules before g place entry c d f h = elim (by_tries rules befo
 ]
 
 -- A written journal is unlawful first at one entry, and by one cause.
-take-prefix : (rules : RuleSet) (opening : Graph) (written : List (ℕ × Entry)) (n i : ℕ) → i < n → IsLawfulWritten rules opening (take n written) → (asked : Cause) → IsUnlawfulAt rules opening written i asked → ⊥
+take-prefix : (rules : Rules) (opening : Graph) (written : List (ℕ × Entry)) (n i : ℕ) → i < n → IsLawfulWritten rules opening (take n written) → (asked : Cause) → IsUnlawfulAt rules opening written i asked → ⊥
 take-prefix rules opening written n i l h asked u = IsUnlawfulAt-unlawful rules opening (take n written) i asked (record {
   lawful_before = rw (take-take written n i (omega arith)) u.lawful_before;
   fails = rw (slice_get-take written n i l, take-take written n i (omega arith)) u.fails;
 }) h
 
-pub IsUnlawfulAt-same : (rules : RuleSet) (opening : Graph) (written : List (ℕ × Entry)) (p q : ℕ) (c d : Cause) → IsUnlawfulAt rules opening written p c → IsUnlawfulAt rules opening written q d → (p ≡ q) × (c ≡ d)
+pub IsUnlawfulAt-same : (rules : Rules) (opening : Graph) (written : List (ℕ × Entry)) (p q : ℕ) (c d : Cause) → IsUnlawfulAt rules opening written p c → IsUnlawfulAt rules opening written q d → (p ≡ q) × (c ≡ d)
 IsUnlawfulAt-same rules opening written p q c d u w = elim (cases_lt p q) [
   | inl l ↦ absurd (take-prefix rules opening written q p l w.lawful_before c u)
   | inr l ↦ elim (cases_lt q p) [

@@ -16,3 +16,6 @@ pub mod Fitting
 pub mod ValueKinds
 pub mod Overflow
 pub mod Coming
+pub mod Unlawful
+pub mod LoneTries
+pub mod BankTries

@@ -279,7 +279,7 @@ flat_map-append h (x ∷ xs) ys = ap (λ l. h x ++ l) (flat_map-append h xs ys) 
 copy_edges-fit : (m : Metamodel) (g : Graph) (rule : Rule) (args : Args) (f : Match) (done copies : List Copy) → IsMeta m → IsRule m rule → IsValid m g rule args f → All (λ copy. CopyIs m g rule args (kernel_of f) copy × CopyStays rule f copy) copies → copies_of rule f ≡ done ++ copies → All (CanBeMade m g (plan_of m g rule args f)) (copy_edges rule (kernel_of f) (length (flat_map (copy_objects m g rule args (kernel_of f)) done)) copies)
 copy_edges-fit m g rule args f done [] d w v a e = All-nil (CanBeMade m g (plan_of m g rule args f))
 copy_edges-fit m g rule args f done (copy ∷ copies) d w v a e = All-append (CanBeMade m g plan) (edges_for (copy_end rule k (length front) copy) copy.multi.shape.edges) (copy_edges rule k (length front + length (made_nodes copy.multi.shape.nodes)) copies)
-    (edges_for-fit m g plan (rule.shape.nodes ++ copy.multi.shape.nodes) (copy_end rule k (length front) copy) copy.multi.shape.edges d (λ P n down s. copy_end-fits m g rule args f copy front (flat_map objects copies) P n w v here.0 here.1 all down s) here.0.multi.edges_fit)
+    (edges_for-fit m g plan (rule.shape.nodes ++ copy.multi.shape.nodes) (copy_end rule k (length front) copy) copy.multi.shape.edges d (λ P n down s. copy_end-fits m g rule args f copy front (flat_map objects copies) P n w v here.0 here.1 all down s) here.0.multi.form.edges_fit)
     (subst (λ (count : ℕ). All (CanBeMade m g plan) (copy_edges rule k count copies)) count (copy_edges-fit m g rule args f (done ++ copy ∷ []) copies d w v (All-tail (λ copy. CopyIs m g rule args k copy × CopyStays rule f copy) copy copies a) (e ∙ sym (append_assoc done (copy ∷ []) copies))))
   where
     k : Extension
@@ -308,8 +308,8 @@ pub plan-carries : (m : Metamodel) (g : Graph) (rule : Rule) (args : Args) (f : 
 plan-carries m g rule args f d w v = record {
   none_dangle = v.none_dangle;
   values_fit = All-append W (writes_of env nodes f.nodes rule.sets) (flat_map (copy_writes g rule args k) copies) (writes_fit m env nodes f.nodes rule.sets v.sets_fit) (All-flat_map W (copy_writes g rule args k) copies (All-weaker (CopyIs m g rule args k) (λ copy. All W (copy_writes g rule args k copy)) (λ copy i. writes_fit m (copy_env g rule args k copy) (nodes_of rule copy.multi) (images_of k copy.found) copy.multi.sets i.sets_fit) copies are));
-  objects_fit = All-append O (objects_for m env rule.sets 0 nodes) (flat_map (copy_objects m g rule args k) copies) (objects_for-fit m env rule.sets 0 nodes d v.sets_fit w.kernel.nodes_fit) (All-flat_map O (copy_objects m g rule args k) copies (All-weaker (CopyIs m g rule args k) (λ copy. All O (copy_objects m g rule args k copy)) (λ copy i. objects_for-fit m (copy_env g rule args k copy) copy.multi.sets (length nodes) copy.multi.shape.nodes d i.sets_fit i.multi.nodes_fit) copies are));
-  edges_fit = All-append (CanBeMade m g plan) (edges_for (end_of nodes f.nodes) rule.shape.edges) (copy_edges rule k 0 copies) (edges_for-fit m g plan nodes (end_of nodes f.nodes) rule.shape.edges d (λ P n down s. kernel_end m g rule args f P n w v down s) w.kernel.edges_fit) (copy_edges-fit m g rule args f [] copies d w v (All-both (CopyIs m g rule args k) (CopyStays rule f) copies are (copies_stay m g rule args f w v)) refl);
+  objects_fit = All-append O (objects_for m env rule.sets 0 nodes) (flat_map (copy_objects m g rule args k) copies) (objects_for-fit m env rule.sets 0 nodes d v.sets_fit w.kernel.form.nodes_fit) (All-flat_map O (copy_objects m g rule args k) copies (All-weaker (CopyIs m g rule args k) (λ copy. All O (copy_objects m g rule args k copy)) (λ copy i. objects_for-fit m (copy_env g rule args k copy) copy.multi.sets (length nodes) copy.multi.shape.nodes d i.sets_fit i.multi.form.nodes_fit) copies are));
+  edges_fit = All-append (CanBeMade m g plan) (edges_for (end_of nodes f.nodes) rule.shape.edges) (copy_edges rule k 0 copies) (edges_for-fit m g plan nodes (end_of nodes f.nodes) rule.shape.edges d (λ P n down s. kernel_end m g rule args f P n w v down s) w.kernel.form.edges_fit) (copy_edges-fit m g rule args f [] copies d w v (All-both (CopyIs m g rule args k) (CopyStays rule f) copies are (copies_stay m g rule args f w v)) refl);
 }
   where
     k : Extension

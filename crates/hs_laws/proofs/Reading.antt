@@ -21,9 +21,9 @@ use Rattle.hs_types.specs.declared.rule.SlotKind.TheVariants.{Attribute}
 use Rattle.hs_expr.specs.Lists.{has}
 use Rattle.hs_types.specs.Metamodel.{attributes_of, features_of, kind_of_type, type_of}
 use Rattle.hs_types.specs.Pattern.{is_drop, is_left, node_is}
-use Rattle.hs_types.specs.RuleForm.{IsMulti, IsRule, SetFits, all_reads, has_slot, reads_in, scope_of, slot_kind}
+use Rattle.hs_types.specs.RuleForm.{IsMulti, IsRule, SetFits, all_reads, has_slot, kernel_reads, reads_in, scope_of, slot_kind, slot_of_read}
 use Rattle.hs_laws.proofs.Images.{IsLeft}
-use Rattle.hs_expr.proofs.Lists.{All-flat_map, All-of_flat_map, All-both, All-front, All-rest_of, All-has, All-of_filter, slice_get-first}
+use Rattle.hs_expr.proofs.Lists.{All-of_map, All-flat_map, All-of_flat_map, All-both, All-front, All-rest_of, All-has, All-of_filter, slice_get-first}
 
 -- Where two steps give a value, the first gives one.
 pub and_then-some : {A B : Type 0} (f : A → Option B) (o : Option A) (y : B) → option_and_then f o ≡ Some y → (x : A) × (o ≡ Some x) × (f x ≡ Some y)
@@ -117,7 +117,7 @@ abbrev KernelSlot : Rule → SlotRead → Type 0
 KernelSlot rule read = read.node < length rule.shape.nodes → has_slot rule.shape.slots read.node (Attribute read.attribute) ≡ true
 
 kernel_slots : (m : Metamodel) (rule : Rule) → IsRule m rule → All (KernelSlot rule) (all_reads rule)
-kernel_slots m rule w = All-weaker (λ read. q read ≡ true → 0 ≤ read.node → S read) (KernelSlot rule) (λ read h l. h (lt-ltb read.node (length rule.shape.nodes) l) (omega arith)) (all_reads rule) (All-of_filter (λ read. 0 ≤ read.node → S read) q (all_reads rule) w.kernel.slots.all_read)
+kernel_slots m rule w = All-weaker (λ read. q read ≡ true → 0 ≤ read.node → S read) (KernelSlot rule) (λ read h l. h (lt-ltb read.node (length rule.shape.nodes) l) (omega arith)) (all_reads rule) (All-of_filter (λ read. 0 ≤ read.node → S read) q (all_reads rule) (All-of_map (λ s. 0 ≤ s.node → has_slot rule.shape.slots s.node s.kind ≡ true) slot_of_read (kernel_reads rule) w.kernel.slots.all_read))
   where
     q : SlotRead → Bool
     q read = ltb read.node (length rule.shape.nodes)
@@ -161,4 +161,4 @@ multi_read m rule w = All-weaker (λ multi. IsMulti m rule multi × All (KernelS
             | inl l ↦ inl (node_is-first is_left rule.shape.nodes multi.shape.nodes read.node l h.0, h.1.0 l)
             | inr l ↦ inr (h.1.1 l)
           ],
-        )) reads (All-both L (λ read. KernelSlot rule read × O read) reads lefts (All-both (KernelSlot rule) O reads slots b.slots.all_read))
+        )) reads (All-both L (λ read. KernelSlot rule read × O read) reads lefts (All-both (KernelSlot rule) O reads slots (All-of_map (λ s. first ≤ s.node → has_slot multi.shape.slots s.node s.kind ≡ true) slot_of_read reads b.slots.all_read)))

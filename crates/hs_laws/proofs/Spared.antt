@@ -27,17 +27,16 @@ use Rattle.hs_types.specs.declared.rule.Shape.{Shape}
 use Rattle.hs_types.specs.declared.rule.SlotKind.TheVariants.{Attribute}
 use Rattle.hs_types.specs.Arguments.{Follows, object_argument}
 use Rattle.hs_types.specs.Conditions.{AreFit, AreTrue, IsAbsent, IsPresent, env_of}
-use Rattle.hs_types.specs.Copies.{AreCopies, Copy, CopyFits, IsCopy, copies_from, copies_of, copy_env, images_of, nodes_of}
+use Rattle.hs_types.specs.Copies.{AreCopies, Copy, CopyFits, IsCopy, copies_from, copies_of, copy_env, images_of, nodes_of, all_dropped_edges, all_dropped_nodes}
 use Rattle.hs_expr.specs.Lists.{has, Apart}
 use Rattle.hs_types.specs.Metamodel.{attributes_of, default_of, fits}
-use Rattle.hs_types.specs.Pattern.{is_kind, is_make, left_nodes, no_shape, node_is, shape_of}
+use Rattle.hs_types.specs.Pattern.{is_make, left_nodes, no_shape, node_is, shape_of}
 use Rattle.hs_types.specs.Plan.{copy_objects, copy_writes, made_slots, objects_for, plan_of, value_set, writes_of}
 use Rattle.hs_types.specs.PlainMatch.{Extends, IsPlain, image, kernel_of, no_match}
 use Rattle.hs_types.specs.RuleForm.{IsRule, reads_in}
-use Rattle.hs_types.specs.Spares.{IsOld, IsSupported, LeavesKinds, Spares}
+use Rattle.hs_types.specs.Spares.{IsOld, IsSupported, LeavesKinds, Spares, touches_kind}
 use Rattle.hs_types.specs.Step.{is_to, step}
 use Rattle.hs_types.specs.TypedGraph.{name_at, value_at}
-use Rattle.hs_types.specs.ValidMatch.{all_dropped_edges, all_dropped_nodes}
 use Rattle.hs_laws.proofs.Images.{FitsNode, image-front, joined}
 use Rattle.hs_laws.proofs.Kept.{Extends-kept, Extends-old, Extends-unmade, NoneDangle-kept, Stays, has_slot-all, unwritten_kind, value-stays}
 use Rattle.hs_expr.proofs.Lists.{All-both, All-find, All-front, All-of_flat_map, All-of_map, All-rest_of, AllZip-with, filter_map-same, flat_map-same}
@@ -121,7 +120,7 @@ kernel-agree m g p rule args f reads h stay unwritten = All-weaker (ReadsKernel 
 copy-agree : (m : Metamodel) (g : Graph) (p : Plan) (rule : Rule) (args : Args) (f : Extension) (copy : Copy) → All (ReadsMulti rule copy.multi) (reads_in copy.multi.wheres copy.multi.sets) → IsPlain m g rule.shape f → Extends m g rule.shape f copy.multi.shape copy.found → Apart f.nodes p.drop_objects → Apart copy.found.nodes p.drop_objects → Unwritten rule f p → LeavesKinds m p copy.multi → Agree (copy_env g rule args f copy) (copy_env (step g p) rule args f copy) (reads_in copy.multi.wheres copy.multi.sets)
 copy-agree m g p rule args f copy reads h e stay own unwritten leaves = All-weaker (ReadsMulti rule copy.multi) (λ read. value_at g (image nodes images read.node) (Attribute read.attribute) ≡ value_at (step g p) (image nodes images read.node) (Attribute read.attribute)) (λ read k. sym (value-stays m g p nodes images read.node (Attribute read.attribute) (joined m g rule.shape f copy.multi.shape copy.found h e) (All-append (Stays p.drop_objects) f.nodes copy.found.nodes stay own) k.0 (elim k.1 [
   | inl l ↦ subst (λ (i : ℕ). list_any (is_to i (Attribute read.attribute)) p.writes ≡ false) (sym (image-front (FitsNode m g) rule.shape.nodes copy.multi.shape.nodes f.nodes copy.found.nodes read.node h.nodes_fit l.0)) (has_slot-all (λ n kind. list_any (is_to (image rule.shape.nodes f.nodes n) kind) p.writes ≡ false) rule.shape.slots read.node (Attribute read.attribute) unwritten l.1)
-  | inr l ↦ has_slot-all (λ n kind. list_any (is_to (image nodes images n) kind) p.writes ≡ false) copy.multi.shape.slots read.node (Attribute read.attribute) (All-weaker (λ slot. All (λ write. is_kind write.slot slot.kind ≡ false) p.writes) (λ slot. list_any (is_to (image nodes images slot.node) slot.kind) p.writes ≡ false) (λ slot k. unwritten_kind (image nodes images slot.node) slot.kind p.writes k) copy.multi.shape.slots leaves.writes) l
+  | inr l ↦ has_slot-all (λ n kind. list_any (is_to (image nodes images n) kind) p.writes ≡ false) copy.multi.shape.slots read.node (Attribute read.attribute) (All-weaker (λ slot. touches_kind p slot.kind ≡ false) (λ slot. list_any (is_to (image nodes images slot.node) slot.kind) p.writes ≡ false) (λ slot k. unwritten_kind (image nodes images slot.node) slot.kind p.writes k) copy.multi.shape.slots leaves.slots) l
 ]))) (reads_in copy.multi.wheres copy.multi.sets) reads
   where
     nodes : List PatternNode

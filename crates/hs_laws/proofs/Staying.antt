@@ -10,13 +10,13 @@ use Rattle.hs_types.specs.declared.request.Args.{Args}
 use Rattle.hs_types.specs.declared.rule.PatternNode.{PatternNode}
 use Rattle.hs_types.specs.declared.rule.Rule.{Rule}
 use Rattle.hs_types.specs.Conditions.{AreFit}
-use Rattle.hs_types.specs.Copies.{Copy, CopyFits, IsCopy, SparesCopy, copies_of, copy_env}
+use Rattle.hs_types.specs.Copies.{Copy, CopyFits, IsCopy, SparesCopy, copies_of, copy_env, all_dropped_nodes}
 use Rattle.hs_types.specs.Dangling.{dropped_nodes}
 use Rattle.hs_expr.specs.Lists.{has, EachPair}
 use Rattle.hs_types.specs.Pattern.{is_drop, is_left, left_nodes}
 use Rattle.hs_types.specs.PlainMatch.{Extends, image, kernel_of}
 use Rattle.hs_types.specs.RuleForm.{IsMulti, IsRule}
-use Rattle.hs_types.specs.ValidMatch.{IsValid, all_dropped_nodes}
+use Rattle.hs_types.specs.ValidMatch.{IsValid}
 use Rattle.hs_laws.proofs.Images.{FitsNode, IsLeft-from, image-among, image-behind, image-stays}
 use Rattle.hs_expr.proofs.Lists.{All-both, Apart-other_way, Differ-across, Differ-across_back, EachPair-rest, beside-has, has-flat_map_none, has-neither, has_not, slice_get-last}
 use Rattle.hs_laws.proofs.Spared.{copies_each}

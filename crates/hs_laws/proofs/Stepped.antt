@@ -12,13 +12,12 @@ use Rattle.hs_types.specs.declared.plan.Plan.{Plan}
 use Rattle.hs_types.specs.declared.rule.Multi.{Multi}
 use Rattle.hs_types.specs.declared.rule.PatternNode.{PatternNode}
 use Rattle.hs_types.specs.declared.rule.Rule.{Rule}
-use Rattle.hs_types.specs.Copies.{copies_from}
+use Rattle.hs_types.specs.Copies.{copies_from, all_dropped_nodes}
 use Rattle.hs_types.specs.Dangling.{NoneDangle, dropped_nodes}
 use Rattle.hs_expr.specs.Lists.{has, beside}
 use Rattle.hs_types.specs.Pattern.{is_drop, is_left, left_nodes}
 use Rattle.hs_types.specs.Step.{new_edges, new_objects, object_after, step}
 use Rattle.hs_types.specs.TypedGraph.{edge_at, object_at}
-use Rattle.hs_types.specs.ValidMatch.{all_dropped_nodes}
 use Rattle.hs_expr.proofs.Lists.{All-each, Rise_missing}
 use Rattle.hs_laws.proofs.Lookups.{edge_at-step, new_edges-rise, new_objects-rise, object_at-step}
 

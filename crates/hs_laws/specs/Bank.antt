@@ -1,6 +1,6 @@
 -- A small bank, for examples: clients with accounts, and accounts with a balance and an owner.
-use Rattle.std.specs.Prelude.{ℕ, ℤ, pos, List, [], ◌∷◌, true, false, Some, None, codes}
-use Rattle.std.proofs.Common.{lit<}
+use Rattle.std.specs.Prelude.{ℕ, ℤ, pos, List, [], ◌∷◌, Bool, true, false, Some, None, codes}
+use Rattle.std.proofs.Common.{lit<, refl}
 use Rattle.hs_expr.specs.declared.expr.Expr.{Expr}
 use Rattle.hs_expr.specs.declared.expr.Expr.TheVariants as expr
 use Rattle.hs_expr.specs.declared.expr.Sign.TheVariants as sign
@@ -10,7 +10,7 @@ use Rattle.hs_types.specs.declared.entry.Entry.{Entry}
 use Rattle.hs_types.specs.declared.entry.Outcome.{Outcome}
 use Rattle.hs_types.specs.declared.entry.Outcome.TheVariants.{Applied, Missed}
 use Rattle.hs_types.specs.declared.entry.Tried.{Tried}
-use Rattle.hs_types.specs.declared.entry.What.TheVariants.{One}
+use Rattle.hs_types.specs.declared.entry.What.TheVariants.{One, Group}
 use Rattle.hs_types.specs.declared.graph.Edge.{Edge}
 use Rattle.hs_types.specs.declared.graph.Graph.{Graph}
 use Rattle.hs_types.specs.declared.graph.Object.{Object}
@@ -35,6 +35,7 @@ use Rattle.hs_types.specs.declared.rule.Rule.{Rule}
 use Rattle.hs_types.specs.declared.rule.SetItem.{SetItem}
 use Rattle.hs_types.specs.declared.rule.Shape.{Shape}
 use Rattle.hs_types.specs.declared.rule.SlotKind.TheVariants as slot
+use Rattle.hs_types.specs.Rules.{Rules}
 
 -- Client is class 0, Account class 1; accounts is feature 0, balance 1, owner 2.
 abbrev pub model : Metamodel
@@ -388,6 +389,10 @@ always_unless_it_overflows =
     expr.Binary sign.Or (expr.Literal (value.Bool true)) (expr.Binary sign.Greater
     (expr.Binary sign.Plus (expr.Param 2) (number (pos 1))) (number (pos 0)))
 
+-- Rules 0 and 1 of the bank.
+abbrev pub bank_rules : Rules
+bank_rules = record { meta = model; rules = open_account ∷ add ∷ []; units = [] }
+
 -- Entries that say what wasn't: a match missed that is there, another name than the next, and
 -- an object gone that is still there.
 abbrev pub open_args : Args
@@ -404,4 +409,66 @@ opens_misnamed =
 abbrev pub opens_and_drops : Entry
 opens_and_drops =
     one 0 (tried 0 open_args (Applied (record { nodes = codes "c1" ∷ []; edges = []; copies = [] })
-    (codes "#0" ∷ []) [] (record { name = codes "c1"; class = 0; slots = [] } ∷ [])))
+    (codes "#0" ∷ []) [] (record {
+      name = codes "c1";
+      class = codes "Client";
+      values = [];
+      in_order = refl;
+    } ∷ [])))
+
+-- Rule 0 of these makes a client.
+abbrev pub lone_rules : Rules
+lone_rules = record { meta = model; rules = lone ∷ []; units = [] }
+
+-- A request's first attempt and its second, each of which made a client of this name.
+abbrev pub made_client : List ℕ → Outcome
+made_client name =
+    Applied (record { nodes = []; edges = []; copies = [] }) (name ∷ []) [] []
+
+abbrev pub makes_first : List ℕ → Tried
+makes_first name = tried 0 (args_of []) (made_client name)
+
+abbrev pub makes_second : List ℕ → Tried
+makes_second name = record {
+  attempt = 1;
+  rule = 0;
+  args = args_of [];
+  outcome = made_client name;
+  attempt_bound = lit< tt;
+}
+
+abbrev pub grouped : List Tried → Bool → Entry
+grouped attempts done = record { session = 0; request = 0; what = Group attempts done }
+
+-- A group of one attempt that isn't done, and one of two that is.
+abbrev pub undone : Entry
+undone = grouped (makes_first (codes "#0") ∷ []) false
+
+abbrev pub both_done : Entry
+both_done = grouped (makes_first (codes "#0") ∷ makes_second (codes "#1") ∷ []) true
+
+-- The graph with one client that was made, and an empty graph that has drawn all numbers.
+abbrev pub one_made : Graph
+one_made = record {
+  objects = client 0 (codes "#0") ∷ [];
+  edges = [];
+  next_object = 1;
+  next_edge = 0;
+  next_name = 1;
+}
+
+abbrev pub all_drawn : Graph
+all_drawn = record {
+  objects = [];
+  edges = [];
+  next_object = 1000000000;
+  next_edge = 0;
+  next_name = 0;
+}
+
+-- The second entry of the bank's journal with another value before.
+abbrev pub adds_to_one : Entry
+adds_to_one =
+    one 1 (tried 1 (args_of (object_arg (codes "a") (codes "#0") ∷ []))
+    (Applied (record { nodes = codes "#0" ∷ []; edges = []; copies = [] }) []
+    (value.Int (pos 1) ∷ []) []))

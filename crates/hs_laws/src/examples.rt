@@ -6,7 +6,6 @@ ghost use Rattle.hs_expr.specs.declared.expr.Sign.TheVariants as sign;
 ghost use Rattle.hs_expr.specs.declared.value.Value.TheVariants as value;
 ghost use Rattle.hs_expr.specs.Evaluation.{Env, value_of};
 ghost use Rattle.hs_types.specs.declared.entry.Cause.TheVariants as cause;
-ghost use Rattle.hs_types.specs.declared.rule_set.RuleSet.{RuleSet};
 ghost use Rattle.hs_types.specs.declared.graph.Graph.{Graph};
 ghost use Rattle.hs_types.specs.declared.meta.Metamodel.{Metamodel};
 ghost use Rattle.hs_types.specs.declared.meta.DataType.TheVariants.{EInt};
@@ -20,11 +19,11 @@ ghost use Rattle.hs_types.specs.MatchOrder.{IsEarlier};
 ghost use Rattle.hs_types.specs.Arguments.{ArgsFit};
 ghost use Rattle.hs_types.specs.Conditions.{AreFit, AreTrue, IsAbsent, IsPresent, env_of};
 ghost use Rattle.hs_types.specs.Copies.{AreCopies, NoneTouch};
-ghost use Rattle.hs_types.specs.Journal.{IsLawful, IsLawfulWritten, IsUnlawfulAt, after_journal, meta_of, new_names, gone_objects};
+ghost use Rattle.hs_types.specs.Journal.{IsLawful, IsLawfulWritten, IsUnlawfulAt, after_journal, new_names};
 ghost use Rattle.hs_types.specs.Plan.{Fits, plan_of};
 ghost use Rattle.hs_types.specs.Spares.{Spares};
 ghost use Rattle.hs_types.specs.Step.{step};
-ghost use Rattle.hs_laws.specs.Bank.{model, client, account, link, transfer, transfer_args, two_accounts, one_account, pair_with, three_with, at_match, lone, open_account, drop_client, unlink, two, add, touch, reset, own, alone, purge, sweep, owned_by_another, owned_by_a_third, args_of, object_arg, value_arg, number, nothing, just_client, client_with_new_account, two_clients, purge_args, copy, opens, adds, adds_first, opens_second, client_with_one, always_unless_it_overflows, opens_missed, opens_misnamed, opens_and_drops};
+ghost use Rattle.hs_laws.specs.Bank.{bank_rules, model, client, account, link, transfer, transfer_args, two_accounts, one_account, pair_with, three_with, at_match, lone, open_account, drop_client, unlink, two, add, touch, reset, own, alone, purge, sweep, owned_by_another, owned_by_a_third, args_of, object_arg, value_arg, number, nothing, just_client, client_with_new_account, two_clients, purge_args, copy, opens, adds, adds_first, opens_second, client_with_one, always_unless_it_overflows, opens_missed, opens_misnamed, opens_and_drops};
 ghost use Rattle.hs_laws.specs.Strange.{looped, family, abstract_object, slotless_account, client_for_account, reused_name, old_names, leaves_a_name_out, hang, slotless, drops};
 
 /// Metamodels: one that is, one whose class is its own supertype; conformance goes up alone;
@@ -197,18 +196,12 @@ pub fn copies()
 /// A journal of two entries, of which the first opens an account and the second adds to it; the
 /// other way round the first names a match that isn't there. And entries that say what wasn't.
 pub fn journals_tried()
-    ensures lawful { (set : RuleSet) → meta_of set ≡ model → set.rules ≡ open_account ∷ add ∷ []
-        → IsLawful set just_client (opens ∷ adds ∷ []) }
-    ensures graph { (set : RuleSet) → meta_of set ≡ model → set.rules ≡ open_account ∷ add ∷ []
-        → after_journal set just_client (opens ∷ adds ∷ []) ≡ client_with_one }
-    ensures exchanged { (set : RuleSet) → meta_of set ≡ model → set.rules ≡ open_account ∷ add ∷ []
-        → IsUnlawfulAt set just_client ((0, adds_first) ∷ (1, opens_second) ∷ []) 0 cause.Match }
-    ensures missed { (set : RuleSet) → meta_of set ≡ model → set.rules ≡ open_account ∷ add ∷ []
-        → IsUnlawfulAt set just_client ((0, opens_missed) ∷ []) 0 cause.Valid }
-    ensures misnamed { (set : RuleSet) → meta_of set ≡ model → set.rules ≡ open_account ∷ add ∷ []
-        → IsUnlawfulAt set just_client ((0, opens_misnamed) ∷ []) 0 cause.New }
-    ensures not_gone { (set : RuleSet) → meta_of set ≡ model → set.rules ≡ open_account ∷ add ∷ []
-        → IsUnlawfulAt set just_client ((0, opens_and_drops) ∷ []) 0 cause.Old }
-    ensures wrong_place { (set : RuleSet)
-        → IsUnlawfulAt set just_client ((1, opens) ∷ []) 0 cause.Number }
+    ensures lawful { IsLawful bank_rules just_client (opens ∷ adds ∷ []) }
+    ensures graph { after_journal bank_rules just_client (opens ∷ adds ∷ []) ≡ client_with_one }
+    ensures exchanged { IsUnlawfulAt bank_rules just_client
+        ((0, adds_first) ∷ (1, opens_second) ∷ []) 0 cause.Match }
+    ensures missed { IsUnlawfulAt bank_rules just_client ((0, opens_missed) ∷ []) 0 cause.Valid }
+    ensures misnamed { IsUnlawfulAt bank_rules just_client ((0, opens_misnamed) ∷ []) 0 cause.New }
+    ensures not_gone { IsUnlawfulAt bank_rules just_client ((0, opens_and_drops) ∷ []) 0 cause.Old }
+    ensures wrong_place { IsUnlawfulAt bank_rules just_client ((1, opens) ∷ []) 0 cause.Number }
 {}

@@ -8,6 +8,7 @@
 mod conformance;
 mod evaluation;
 mod examples;
+mod groups;
 mod journals;
 mod order;
 mod refusals;
@@ -20,8 +21,10 @@ pub use examples::{
     arguments, conditions, copies, dangling, expressions, graphs, journals_tried, metamodels,
     orders, plain_matches, plans, rules_refused, steps_made, transfers,
 };
+pub use groups::{entries_refused, groups_tried};
 pub use journals::{
-    journals_go_on, journals_stay_lawful, lawful_or_not, missed_attempts_change_nothing,
+    attempts_stay_typed, journals_go_on, journals_stay_lawful, lawful_or_not,
+    missed_attempts_change_nothing,
 };
 pub use order::{least_is_unique, order_is_total};
 pub use refusals::{

@@ -75,7 +75,8 @@ pub fn malformed_rules()
     ensures foreign { IsRule model (rule [] (kernel
         (node (codes "c") 0 Keep ∷ node (codes "a") 1 Keep ∷ []) (arrow 1 0 0 Keep ∷ []) [])) → ⊥ }
     ensures number_condition { IsRule model (record touch { wheres = number (pos 1) ∷ [] }) → ⊥ }
-    ensures set_at_dropped { IsRule model (rule_that_sets Drop (set_balance 0 (number (pos 1)) ∷ [])) → ⊥ }
+    ensures set_at_dropped { IsRule model
+        (rule_that_sets Drop (set_balance 0 (number (pos 1)) ∷ [])) → ⊥ }
     ensures set_twice { IsRule model (rule_that_sets Keep
         (set_balance 0 (number (pos 1)) ∷ set_balance 0 (number (pos 2)) ∷ [])) → ⊥ }
     ensures slot_not_needed { IsRule model (rule_that_sets Keep []) → ⊥ }

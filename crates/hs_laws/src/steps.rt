@@ -22,7 +22,8 @@ ghost use Rattle.hs_types.specs.Plan.{Fits, plan_of};
 ghost use Rattle.hs_types.specs.RuleForm.{IsRule};
 ghost use Rattle.hs_types.specs.Step.{is_to, number_of, object_after, step};
 ghost use Rattle.hs_types.specs.TypedGraph.{IsTyped, edge_at, hash_name, object_at, value_at};
-ghost use Rattle.hs_types.specs.ValidMatch.{IsValid, all_dropped_edges, all_dropped_nodes};
+ghost use Rattle.hs_types.specs.ValidMatch.{IsValid};
+ghost use Rattle.hs_types.specs.Copies.{all_dropped_edges, all_dropped_nodes};
 
 /// The step of a valid match of a typed graph leads to a typed graph over the same metamodel: the
 /// classes of objects and of edges' ends still fit, names still differ, and the next numbers only

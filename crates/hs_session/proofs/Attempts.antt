@@ -1,4 +1,5 @@
 -- An attempt of a rule that only adds, at a valid match, says what it did.
+use Rattle.std.specs.List.{AllZip}
 use Rattle.std.proofs.Common.{ℕ, ◌≤◌, ◌≡◌, List, [], length, Some, refl, ap, ◌∙◌, subst, arith}
 use Rattle.std.specs.Option.{option_map, unwrap_or}
 use Rattle.hs_types.specs.declared.entry.Cause.{Cause}
@@ -9,7 +10,7 @@ use Rattle.hs_types.specs.declared.matching.Match.{Match}
 use Rattle.hs_types.specs.declared.meta.Metamodel.{Metamodel}
 use Rattle.hs_types.specs.declared.plan.Plan.{Plan}
 use Rattle.hs_types.specs.declared.rule.Rule.{Rule}
-use Rattle.hs_types.specs.Journal.{AppliedAsks, IsWithinNumbers, gone_objects, match_named, new_names, old_values}
+use Rattle.hs_types.specs.Journal.{AppliedAsks, IsWithinNumbers, IsGone, dropped_objects, match_named, new_names, old_values}
 use Rattle.hs_types.specs.Plan.{plan_of}
 use Rattle.hs_types.specs.Step.{step}
 use Rattle.hs_types.specs.ValidMatch.{IsValid}
@@ -28,7 +29,7 @@ applied_asks m g rule f plan found new same only valid named names within cause.
 applied_asks m g rule f plan found new same only valid named names within cause.Match = rw named valid
 applied_asks m g rule f plan found new same only valid named names within cause.Valid = tt
 applied_asks m g rule f plan found new same only valid named names within cause.New = rw named (subst (λ (p : Plan). (new ≡ new_names g p) × IsWithinNumbers (step g p)) same (names, within))
-applied_asks m g rule f plan found new same only valid named names within cause.Old = rw named (subst (λ (p : Plan). ([] ≡ old_values g p) × ([] ≡ gone_objects g p)) same (rw (only.slots_stay, only.objects_stay) (refl, refl)))
+applied_asks m g rule f plan found new same only valid named names within cause.Old = rw named (subst (λ (p : Plan). ([] ≡ old_values g p) × AllZip (IsGone m) (dropped_objects g p) []) same (rw (only.slots_stay, only.objects_stay) (refl, tt)))
 
 -- The graph after it.
 pub after_applied : (m : Metamodel) (g h : Graph) (rule : Rule) (f : Match) (plan : Plan) (found : MatchNames) →

@@ -1,6 +1,7 @@
 -- Of one request there is a serial report.
-use Rattle.std.proofs.Common.{ℕ, ◌≡◌, [], ◌∷◌, Option, Some, None, slice_get, refl, lit<}
-use Rattle.std.specs.List.{filter_map}
+use Rattle.std.proofs.Common.{ℕ, ◌≡◌, [], ◌∷◌, false, Option, Some, None, slice_get, refl, lit<}
+use Rattle.std.specs.Arc.{arc_value}
+use Rattle.std.specs.List.{All, filter_map}
 use Rattle.hs_types.specs.declared.entry.Cause.{Cause}
 use Rattle.hs_types.specs.declared.entry.Cause.TheVariants as cause
 use Rattle.hs_types.specs.declared.entry.MatchNames.{MatchNames}
@@ -13,23 +14,22 @@ use Rattle.hs_types.specs.declared.matching.Match.{Match}
 use Rattle.hs_types.specs.declared.meta.Metamodel.{Metamodel}
 use Rattle.hs_types.specs.declared.request.Request.{Request}
 use Rattle.hs_types.specs.declared.rule.Rule.{Rule}
-use Rattle.hs_types.specs.declared.rule_set.RuleSet.{RuleSet}
-use Rattle.hs_types.specs.Journal.{OutcomeAsks, after_outcome, meta_of, new_names}
+use Rattle.hs_types.specs.declared.unit.Callee.TheVariants as callee
+use Rattle.hs_types.specs.Rules.{Rules}
+use Rattle.hs_types.specs.Journal.{OutcomeAsks, after_outcome, new_names}
 use Rattle.hs_types.specs.Plan.{plan_of}
 use Rattle.hs_types.specs.TypedGraph.{IsTyped, name_at}
 use Rattle.hs_types.specs.ValidMatch.{IsFirst, NoneIsValid}
 use Rattle.hs_types.specs.Arguments.{no_args}
 use Rattle.hs_apply.specs.Additions.{AdditionsOnlyMake}
 use Rattle.hs_expr.proofs.Lists.{All-one}
-use Rattle.hs_session.specs.declared.report.Reply.{Reply}
 use Rattle.hs_session.specs.declared.report.Report.{Report}
-use Rattle.hs_session.specs.declared.report.Word.TheVariants as word
-use Rattle.hs_session.specs.Answers.{rule_named}
-use Rattle.hs_session.specs.Runnable.{IsRunnable, word_for}
-use Rattle.hs_session.specs.SerialReport.{HadMemory, IsLeastOutcome, IsSerialReport}
+use Rattle.hs_session.specs.Requests.{callee_named}
+use Rattle.hs_session.specs.Runnable.{IsRunnable}
+use Rattle.hs_session.specs.SerialReport.{IsDecided, IsLeastOutcome, IsSerialReport}
 use Rattle.hs_session.proofs.Attempts.{applied_asks, within_numbers}
 use Rattle.hs_session.proofs.Named.{named_again}
-use Rattle.hs_session.proofs.Served.{Made, first_reply, serial_one}
+use Rattle.hs_session.proofs.Served.{IsFirstTry, first_reply, serial_one}
 
 names_at : Graph → Match → MatchNames
 names_at g f = record { nodes = filter_map (name_at g) f.nodes; edges = f.edges; copies = [] }
@@ -58,25 +58,26 @@ unfolding outcome_of names_at
 least_of m g rule None typed runs none = tt
 least_of m g rule (Some f) typed runs least = rw (named_again m g rule f typed runs.only_adds.is_unconditional.multis least.valid) least
 
-had_memory : (outcome : Outcome) → word_for outcome ≡ word.Memory → ⊥
-had_memory (Applied found new old gone) e = cc
-had_memory Missed e = cc
+decided : (outcome : Outcome) → IsDecided (first_reply outcome)
+decided (Applied found new old gone) = ((λ e. cc), (λ e. cc))
+decided Missed = ((λ e. cc), (λ e. cc))
 
-pub one_exists : (rules : RuleSet) (opening : Graph) (request : Request) (called : ℕ) (rule : Rule) (answer : Option Match) → IsTyped (meta_of rules) opening →
-    rule_named rules request.call ≡ Some called → slice_get rules.rules called ≡ Some rule → IsRunnable opening rule → request.args ≡ no_args → AdditionsOnlyMake → IsFirst (meta_of rules) opening rule no_args answer →
-    (report : Report) × IsSerialReport rules opening ((request ∷ []) ∷ []) report × HadMemory report
-one_exists rules opening request called rule answer typed named found runs args adds first =
-    let outcome = outcome_of (meta_of rules) opening rule answer in
+pub one_exists : (rules : Rules) (listed : ListGraph) (opening : Graph) (request : Request) (called : ℕ) (rule : Rule) (answer : Option Match) → IsTyped rules.meta opening →
+    callee_named rules request.call ≡ Some (callee.Rule called) → slice_get rules.rules called ≡ Some rule → IsRunnable opening rule → request.args ≡ no_args → request.group ≡ false → arc_value listed.meta ≡ rules.meta → AdditionsOnlyMake → IsFirst rules.meta opening rule no_args answer →
+    (report : Report) × IsSerialReport rules opening ((request ∷ []) ∷ []) report × All IsDecided report.replies
+one_exists rules listed opening request called rule answer typed named found runs args single model adds first =
+    let outcome = outcome_of rules.meta opening rule answer in
     let tried : Tried = record { attempt = 0; rule = called; args = no_args; outcome = outcome; attempt_bound = lit< tt } in
-    let graph : ListGraph = record { meta = rules.meta; graph = after_outcome (meta_of rules) opening rule no_args outcome } in
-    let made : Made rules opening request rule tried = record {
+    let graph : ListGraph = record { meta = listed.meta; graph = after_outcome rules.meta opening rule no_args outcome } in
+    let made : IsFirstTry rules opening request rule tried = record {
       called = named;
       found = found;
       asked_args = args;
+      not_grouped = single;
       tried_args = refl;
       first = refl;
       no_params = runs.no_params;
-      told = told adds (meta_of rules) opening rule answer typed runs first;
-      least = least_of (meta_of rules) opening rule answer typed runs first;
+      told = told adds rules.meta opening rule answer typed runs first;
+      least = least_of rules.meta opening rule answer typed runs first;
     } in
-    (_, serial_one rules opening request rule tried graph made refl refl, All-one (λ (r : Reply). r.word ≡ word.Memory → ⊥) (first_reply outcome) (had_memory outcome))
+    (_, serial_one rules opening request rule tried graph made refl model, All-one IsDecided (first_reply outcome) (decided outcome))

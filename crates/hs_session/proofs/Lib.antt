@@ -1,6 +1,15 @@
 pub mod Attempts
+pub mod Exists
+pub mod Fronts
 pub mod Named
 pub mod Naming
+pub mod Placing
+pub mod Replies
+pub mod Requests
+pub mod Runs
 pub mod Served
+pub mod Sound
+pub mod TriedOnce
+pub mod Tries
 pub mod Unique
-pub mod Exists
+pub mod Written

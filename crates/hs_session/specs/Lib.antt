@@ -1,4 +1,9 @@
-pub mod Answers
+pub mod Requests
+pub mod Standing
+pub mod Runs
+pub mod Full
+pub mod Replies
 pub mod LawfulReport
-pub mod Runnable
 pub mod SerialReport
+pub mod Runnable
+pub mod Samples

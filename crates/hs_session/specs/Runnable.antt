@@ -24,7 +24,7 @@ pub record IsRunnable (g : Graph) (rule : Rule) : Type 0 where
   pub small : IsSmall rule.shape
   pub room : HasRoomFor g rule
 
--- The word on an attempt that was made.
-abbrev pub word_for : Outcome → Word
-word_for (Applied found new old gone) = word.Ok
-word_for Missed = word.NoMatch
+-- The word on the one attempt at a rule.
+abbrev pub outcome_word : Outcome → Word
+outcome_word (Applied found new old gone) = word.Ok
+outcome_word Missed = word.NoMatch

@@ -1,18 +1,21 @@
 //! Running requests one after another.
 
-ghost use Rattle.std.specs.Prelude.{◌≡◌, ◌∷◌, [], IfOk, IsSome, IsSomeAnd, Some, slice_get};
+ghost use Rattle.std.specs.Prelude.{◌≡◌, ◌∷◌, [], IfOk, IsSome, IsSomeAnd, Some, false, slice_get};
 ghost use Rattle.std.specs.Arc.{arc_value};
 ghost use Rattle.std.specs.List.{All, filter_map};
 ghost use Rattle.hs_types.specs.declared.entry.Cause.{Cause};
-ghost use Rattle.hs_types.specs.Journal.{OutcomeAsks, after_outcome, match_named, meta_of};
+ghost use Rattle.hs_types.specs.declared.unit.Callee.TheVariants as callee;
+ghost use Rattle.hs_types.specs.Journal.{OutcomeAsks, after_outcome, match_named};
 ghost use Rattle.hs_types.specs.RuleForm.{IsRule};
+ghost use Rattle.hs_types.specs.Rules.{Rules};
 ghost use Rattle.hs_types.specs.TypedGraph.{IsTyped, name_at};
 ghost use Rattle.hs_types.specs.ValidMatch.{IsLeast, IsValid};
 ghost use Rattle.hs_types.specs.Arguments.{no_args};
 ghost use Rattle.hs_types.specs.Additions.{OnlyAdds};
-ghost use Rattle.hs_session.specs.Answers.{rule_named};
-ghost use Rattle.hs_session.specs.Runnable.{IsRunnable, word_for};
+ghost use Rattle.hs_session.specs.Requests.{callee_named};
+ghost use Rattle.hs_session.specs.Runnable.{IsRunnable, outcome_word};
 ghost use Rattle.hs_session.specs.SerialReport.{IsLeastOutcome, IsSerialReport};
+ghost use Rattle.hs_session.specs.Standing.{no_outs};
 
 use crate::report::{Reply, Report, Word};
 use hs_apply::{Stepped, install, plan};
@@ -20,8 +23,8 @@ use hs_expr::{List, Text};
 use hs_laws::plans_fit;
 use hs_match::first_match;
 use hs_types::{
-    Entry, Graph, ListGraph, Match, MatchNames, Meta, ObjectNo, Outcome, Request, Rule, RuleSet,
-    Tried, What, rule_sets_are_formed,
+    Entry, Graph, ListGraph, Match, MatchNames, Meta, ObjectNo, Outcome, Outs, Request, Rule,
+    RuleSet, Tried, What,
 };
 use std::alloc::{AllocError, Global};
 
@@ -32,8 +35,8 @@ struct Attempted {
     graph: Graph,
 }
 
-/// Runs one request of one session, which calls the rule at this place without arguments, from this
-/// graph on.
+/// Runs one request of one session, which calls the rule at this place without arguments and isn't
+/// grouped, from this graph on.
 pub fn run_serial(
     alloc: Global,
     graph: ListGraph,
@@ -41,14 +44,15 @@ pub fn run_serial(
     called: u16,
     request: &Request,
 ) -> Result<Report, AllocError>
-    requires same_model { arc_value graph.meta ≡ meta_of rules.now }
-    requires typed { IsTyped (meta_of rules.now) graph.graph }
-    requires called { rule_named rules.now request.now.call ≡ Some called }
+    requires same_model { arc_value graph.meta ≡ rules.now.meta }
+    requires typed { IsTyped rules.now.meta graph.graph }
+    requires called { callee_named rules.now request.now.call ≡ Some (callee.Rule called) }
     requires runnable { IsSomeAnd (slice_get rules.now.rules called) (IsRunnable graph.graph) }
     requires no_arguments { request.now.args ≡ no_args }
+    requires not_grouped { request.now.group ≡ false }
     ensures { IfOk result (IsSerialReport rules.now graph.graph ((request.now ∷ []) ∷ [])) }
 {
-    rule_sets_are_formed();
+    rules.are_formed();
     let ListGraph { meta, graph } = graph;
     let rule = rule_at(rules, called);
     let Attempted { outcome, graph } = attempt(alloc, &meta, graph, rule)?;
@@ -68,7 +72,7 @@ pub fn run_serial(
 
 /// The report of a run in which nothing is asked for: the graph as it was.
 pub fn run_nothing(alloc: Global, graph: ListGraph) -> Report
-    ensures { (rules : RuleSet) → arc_value graph.meta ≡ meta_of rules
+    ensures { (rules : Rules) → arc_value graph.meta ≡ rules.meta
         → IsSerialReport rules graph.graph [] result }
 {
     Report {
@@ -115,22 +119,24 @@ fn reply_of(alloc: Global, outcome: &Outcome) -> Result<Reply, AllocError>
         (λ reply. reply ≡ record {
           session = 0;
           request = 0;
-          word = word_for outcome.now;
+          word = outcome_word outcome.now;
           places = 0 ∷ [];
-          outs = [];
+          outs = no_outs;
         }) }
 {
     Ok(Reply {
         session: 0,
         request: 0,
-        word: word_for(outcome),
+        word: outcome_word(outcome),
         places: one(alloc, 0)?,
-        outs: List::new(alloc),
+        outs: Outs {
+            list: List::new(alloc),
+        },
     })
 }
 
-fn word_for(outcome: &Outcome) -> Word
-    ensures { result ≡ word_for outcome.now }
+fn outcome_word(outcome: &Outcome) -> Word
+    ensures { result ≡ outcome_word outcome.now }
 {
     match outcome {
         Outcome::Applied { .. } => Word::Ok,

@@ -1,10 +1,6 @@
-//! Tests of public calls of the kit, the definitions and the engine, and worked examples of the
-//! definitions of reports. They are here so that the libraries are proved once.
+//! Tests of public calls of the kit, the definitions and the engine. They are here so that the
+//! libraries are proved once.
 #![tactic(auto)]
-
-mod reports;
-
-pub use reports::reports_tried;
 
 #[cfg(test)]
 mod conformance;

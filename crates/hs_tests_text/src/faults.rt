@@ -15,12 +15,12 @@ const MODEL: &str =
     r#"{"classes":[{"name":"Thing","abstract":true,"attributes":[{"name":"name","type":"EString"}]},{"name":"Client","supers":["Thing"],"references":[{"name":"accounts","target":"Account","upper":-1}]},{"name":"Account","supers":["Thing"],"attributes":[{"name":"balance","type":"EInt"},{"name":"open","type":"EBoolean"}],"references":[{"name":"owner","target":"Client","upper":-1},{"name":"about","target":"Thing","upper":-1}]},{"name":"Ghost","abstract":true}]}"#;
 
 /// Position, place and kind of the fault, or `fine`.
-fn answer_text(
+fn answer_text<T: Drop>(
     alloc: Global,
-    answer: Result<(), Failure<RuleFault>>,
+    answer: Result<T, Failure<RuleFault>>,
 ) -> Result<String, AllocError> {
     match answer {
-        Ok(()) => String::from_str(alloc, "fine"),
+        Ok(_) => String::from_str(alloc, "fine"),
         Err(Failure::Fault(fault)) => {
             let place = match fault.within {
                 Within::Unit => "unit",

@@ -48,7 +48,7 @@ use Rattle.hs_types.specs.declared.unit.Unit.{Unit as RuleUnit}
 use Rattle.hs_types.specs.Metamodel.{Conforms, FeatureFits, HaveCommon, IsConcrete, IsMeta, StandBefore, attributes_of, class_at, conforms, feature_at, features_of, is_attribute, is_of_type, owned_by, supers_of, target_of}
 use Rattle.hs_types.specs.Pattern.{is_drop, is_keep, is_left, node_is}
 use Rattle.hs_types.specs.Limits.{AreFlat, IsSmallMeta, IsSmallRule, IsSmallShape, IsSmallUnit, parallel_to}
-use Rattle.hs_types.specs.RuleForm.{AreSlots, all_nodes, EdgeFits, EndFits, IsBlock, IsMulti, IsPart, IsRule, KindBefore, NodeFits, ParamFits, SetFits, SlotBefore, has_slot, is_read, is_set, joins, kernel_reads, param_side, reads_in, scope_of}
+use Rattle.hs_types.specs.RuleForm.{AreSlots, all_nodes, EdgeFits, EndFits, IsBlock, IsMulti, IsPart, IsRule, IsShape, KindBefore, NodeFits, NodeSlot, ParamFits, SetFits, SlotBefore, has_slot, is_among, joins, kernel_reads, param_side, reads_in, scope_of, slots_read, slots_set}
 use Rattle.hs_types.specs.UnitForm.{bound_name, AreBinds, AtomFits, BindFits, BodyFits, CallFits, CountFits, GoalFits, IsRuleSet, IsUnit, KindFits, UnitParamFits, param_named, params_of}
 use Rattle.hs_types.specs.Units.{calls_of}
 use Rattle.hs_types.proofs.Conforming.{concrete_from, concrete_to, conforms_from, conforms_to}
@@ -208,23 +208,28 @@ split-SlotBefore m nodes s t = split-less s.node t.node (split-×
     (split-same coded_ℕ s.node t.node)
     (split-IsSomeAnd (λ node. KindBefore (features_of m node.class) s.kind t.kind) (slice_get nodes s.node) (λ node. split-KindBefore (features_of m node.class) s.kind t.kind)))
 
-split-AreSlots : (m : Metamodel) (nodes : List PatternNode) (first : ℕ) (reads : List SlotRead) (sets : List SetItem) (slots : List PatternSlot) → HasSplitSupport (AreSlots m nodes first reads sets slots)
-split-AreSlots m nodes first reads sets slots h = record {
-  in_order = split-EachPair (SlotBefore m nodes) slots (split-SlotBefore m nodes) (∥∥₁_map h (λ r. r.in_order));
-  at_own = split-All (λ slot. (first ≤ slot.node) × (node_is is_left nodes slot.node ≡ true)) slots (λ slot. split-× (split-≤ _ _) (split-true _)) (∥∥₁_map h (λ r. r.at_own));
-  needed = split-All (λ slot. (is_read reads slot || is_set sets slot ≡ true) × (slot.written ≡ is_set sets slot)) slots (λ slot. split-× (split-true _) (split-same coded_bool _ _)) (∥∥₁_map h (λ r. r.needed));
-  all_read = split-All (λ read. first ≤ read.node → has_slot slots read.node (Attribute read.attribute) ≡ true) reads (λ read. split-→ _ (λ own. split-true _)) (∥∥₁_map h (λ r. r.all_read));
-  all_set = split-All (λ item. node_is is_keep nodes item.node ≡ true → has_slot slots item.node (Attribute item.attribute) ≡ true) sets (λ item. split-→ _ (λ kept. split-true _)) (∥∥₁_map h (λ r. r.all_set));
+split-AreSlots : (nodes : List PatternNode) (first : ℕ) (reads writes : List NodeSlot) (slots : List PatternSlot) → HasSplitSupport (AreSlots nodes first reads writes slots)
+split-AreSlots nodes first reads writes slots h = record {
+  needed = split-All (λ slot. (is_among reads slot || is_among writes slot ≡ true) × (slot.written ≡ is_among writes slot)) slots (λ slot. split-× (split-true _) (split-same coded_bool _ _)) (∥∥₁_map h (λ r. r.needed));
+  all_read = split-All (λ s. first ≤ s.node → has_slot slots s.node s.kind ≡ true) reads (λ s. split-→ _ (λ own. split-true _)) (∥∥₁_map h (λ r. r.all_read));
+  all_written = split-All (λ s. node_is is_keep nodes s.node ≡ true → has_slot slots s.node s.kind ≡ true) writes (λ s. split-→ _ (λ kept. split-true _)) (∥∥₁_map h (λ r. r.all_written));
+}
+
+split-IsShape : (m : Metamodel) (nodes : List PatternNode) (first : ℕ) (shape : Shape) → HasSplitSupport (IsShape m nodes first shape)
+split-IsShape m nodes first shape h = record {
+  nodes_fit = split-All (NodeFits m) shape.nodes (split-NodeFits m) (∥∥₁_map h (λ r. r.nodes_fit));
+  edges_fit = split-All (λ edge. EdgeFits m (joins edge.mark) nodes edge) shape.edges (λ edge. split-EdgeFits m (joins edge.mark) nodes edge) (∥∥₁_map h (λ r. r.edges_fit));
+  in_order = split-EachPair (SlotBefore m nodes) shape.slots (split-SlotBefore m nodes) (∥∥₁_map h (λ r. r.in_order));
+  at_own = split-All (λ slot. (first ≤ slot.node) × (node_is is_left nodes slot.node ≡ true)) shape.slots (λ slot. split-× (split-≤ _ _) (split-true _)) (∥∥₁_map h (λ r. r.at_own));
 }
 
 split-IsBlock : (m : Metamodel) (rule : Rule) (nodes : List PatternNode) (first : ℕ) (shape : Shape) (wheres : List Expr) (sets : List SetItem) (reads : List SlotRead) → HasSplitSupport (IsBlock m rule nodes first shape wheres sets reads)
 split-IsBlock m rule nodes first shape wheres sets reads h = record {
-  nodes_fit = split-All (NodeFits m) shape.nodes (split-NodeFits m) (∥∥₁_map h (λ r. r.nodes_fit));
-  edges_fit = split-All (λ edge. EdgeFits m (joins edge.mark) nodes edge) shape.edges (λ edge. split-EdgeFits m (joins edge.mark) nodes edge) (∥∥₁_map h (λ r. r.edges_fit));
+  form = split-IsShape m nodes first shape (∥∥₁_map h (λ r. r.form));
   wheres_fit = split-All (λ expr. kind_in (scope_of m rule nodes) expr ≡ Some value.Bool) wheres (λ expr. split-same (coded_option coded_kind) _ _) (∥∥₁_map h (λ r. r.wheres_fit));
   sets_fit = split-All (λ item. (first ≤ item.node) × SetFits m (scope_of m rule nodes) nodes item) sets (λ item. split-× (split-≤ _ _) (split-SetFits m (scope_of m rule nodes) nodes item)) (∥∥₁_map h (λ r. r.sets_fit));
   sets_once = split-EachPair (λ a b. (a.node ≡ b.node) × (a.attribute ≡ b.attribute) → ⊥) sets (λ a b. split-→ _ (λ same. split-⊥)) (∥∥₁_map h (λ r. r.sets_once));
-  slots = split-AreSlots m nodes first reads sets shape.slots (∥∥₁_map h (λ r. r.slots));
+  slots = split-AreSlots nodes first (slots_read reads) (slots_set sets) shape.slots (∥∥₁_map h (λ r. r.slots));
 }
 
 split-IsPart : (m : Metamodel) (rule : Rule) (part : Part) → HasSplitSupport (IsPart m rule part)

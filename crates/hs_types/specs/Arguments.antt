@@ -1,8 +1,9 @@
 -- Arguments: which fit a rule, and where they send its nodes.
-use Rattle.std.specs.Prelude.{ℕ, ◌≡◌, List, [], Bool, true, false, ◌&&◌, Option, Some, None, IsSomeAnd, IfSome, slice_get}
+use Rattle.std.specs.Prelude.{ℕ, ◌≡◌, List, [], map, Bool, true, false, ◌&&◌, Option, Some, None, IsSomeAnd, IfSome, slice_get}
 use Rattle.std.specs.List.{All, find, list_any}
 use Rattle.std.specs.Option.{option_map, option_and_then}
 use Rattle.hs_expr.specs.declared.value.Value.{Value}
+use Rattle.hs_expr.specs.declared.value.Value.TheVariants as value
 use Rattle.hs_expr.specs.Evaluation.{kind_of}
 use Rattle.hs_types.specs.declared.graph.Graph.{Graph}
 use Rattle.hs_types.specs.declared.request.Arg.{Arg}
@@ -65,7 +66,23 @@ pub record ArgsFit (params : List Param) (args : Args) : Type 0 where
   pub each_taken : All (λ a. list_any
       (λ param. is_in param.direction && same_text param.name a.name) params ≡ true) args.list
 
--- A node that an argument names goes to the object of the argument's name; any other goes where it
--- will.
+-- A text that is given to a parameter for an object is that object's name.
+abbrev pub as_arg : Option ParamKind → Arg → Arg
+as_arg (Some (kind.Object class)) (arg.Value (value.Text name)) = arg.Object name
+as_arg _ given = given
+
+-- A request's arguments as a callee with these parameters takes them.
+abbrev pub as_given : List Param → Args → Args
+as_given params args = record {
+  list =
+      map (λ given. record {
+        name = given.name;
+        arg = as_arg (option_map (λ param. param.kind)
+            (find (λ param. same_text param.name given.name) params)) given.arg;
+      }) args.list;
+}
+
+-- A node that an argument names is mapped to the object of the argument's name; any other node to
+-- any object.
 abbrev pub Follows : Graph → Args → PatternNode → ℕ → Type 0
 Follows g args node n = IfSome (object_argument args node.name) (λ name. name_at g n ≡ Some name)

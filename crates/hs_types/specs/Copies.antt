@@ -1,6 +1,6 @@
 -- Copies of multi-rules.
 use Rattle.std.specs.Prelude.{ℕ, ◌≡◌, List, [], ◌∷◌, ◌++◌, map, Contains}
-use Rattle.std.specs.List.{All, filter}
+use Rattle.std.specs.List.{All, filter, flat_map}
 use Rattle.hs_expr.specs.Evaluation.{Env}
 use Rattle.hs_types.specs.declared.graph.Graph.{Graph}
 use Rattle.hs_types.specs.declared.matching.Extension.{Extension}
@@ -56,6 +56,18 @@ copies_from (multi ∷ multis) (found ∷ lists) =
 
 abbrev pub copies_of : Rule → Match → List Copy
 copies_of rule f = copies_from rule.multis f.copies
+
+-- The objects, and the edges, that a match drops: the kernel's first, then copy by copy, in written
+-- order.
+abbrev pub all_dropped_nodes : Rule → Match → List ℕ
+all_dropped_nodes rule f =
+    dropped_nodes rule.shape (kernel_of f)
+    ++ flat_map (λ copy. dropped_nodes copy.multi.shape copy.found) (copies_of rule f)
+
+abbrev pub all_dropped_edges : Rule → Match → List ℕ
+all_dropped_edges rule f =
+    dropped_edges rule.shape (kernel_of f)
+    ++ flat_map (λ copy. dropped_edges copy.multi.shape copy.found) (copies_of rule f)
 
 -- The values that a copy sets fit.
 abbrev pub CopyFits : Metamodel → Graph → Rule → Args → Extension → Copy → Type 0

@@ -15,6 +15,7 @@ pub mod Journal
 pub mod RuleForm
 pub mod Units
 pub mod UnitForm
+pub mod Rules
 pub mod Spares
 pub mod Elements
 pub mod Outs

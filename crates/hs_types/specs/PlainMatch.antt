@@ -18,6 +18,10 @@ use Rattle.hs_types.specs.TypedGraph.{edge_at, IsOf}
 abbrev pub image : List PatternNode → List ℕ → ℕ → ℕ
 image nodes images n = slice_index images (length (left_nodes (take n nodes)))
 
+-- The image of edge n, likewise by the left edges before it.
+abbrev pub edge_image : List PatternEdge → List ℕ → ℕ → ℕ
+edge_image edges images n = slice_index images (length (left_edges (take n edges)))
+
 -- Edge n of the graph has the pattern edge's reference, and joins the images of its ends.
 abbrev pub IsImage : Graph → (ℕ → ℕ) → PatternEdge → ℕ → Type 0
 IsImage g at edge n =

@@ -23,14 +23,13 @@ use Rattle.hs_types.specs.declared.rule.SetItem.{SetItem}
 use Rattle.hs_types.specs.declared.rule.SlotKind.{SlotKind}
 use Rattle.hs_types.specs.declared.rule.SlotKind.TheVariants.{Attribute, Link, Container}
 use Rattle.hs_types.specs.Conditions.{env_of}
-use Rattle.hs_types.specs.Copies.{Copy, copies_of, copy_env, nodes_of, images_of}
+use Rattle.hs_types.specs.Copies.{Copy, copies_of, copy_env, nodes_of, images_of, all_dropped_nodes, all_dropped_edges}
 use Rattle.hs_types.specs.Dangling.{NoneDangle}
 use Rattle.hs_expr.specs.Lists.{has, Differ, EachPair}
 use Rattle.hs_types.specs.Metamodel.{Conforms, attributes_of, default_of, features_of, fits, target_of}
 use Rattle.hs_types.specs.Pattern.{is_make, made_nodes, made_edges, node_is}
 use Rattle.hs_types.specs.PlainMatch.{image, kernel_of}
 use Rattle.hs_types.specs.TypedGraph.{AreSlotsOf, object_at, edge_at, value_at, Stands}
-use Rattle.hs_types.specs.ValidMatch.{all_dropped_nodes, all_dropped_edges}
 
 -- The values that the `set`s write into slots of preserved nodes, in written order.
 abbrev pub writes_of : Env → List PatternNode → List ℕ → List SetItem → List Write

@@ -94,30 +94,51 @@ SlotBefore m nodes s t =
     (s.node < t.node) ⊎ ((s.node ≡ t.node) × IsSomeAnd (slice_get nodes s.node)
     (λ node. KindBefore (features_of m node.class) s.kind t.kind))
 
-abbrev pub is_read : List SlotRead → PatternSlot → Bool
-is_read reads slot =
-    list_any (λ read. eqb read.node slot.node && is_kind (Attribute read.attribute) slot.kind) reads
+-- A slot of a node.
+pub record NodeSlot : Type 0 where
+  pub node : ℕ
+  pub kind : SlotKind
 
-abbrev pub is_set : List SetItem → PatternSlot → Bool
-is_set sets slot =
-    list_any (λ item. eqb item.node slot.node && is_kind (Attribute item.attribute) slot.kind) sets
+-- The slots that are read, and those that are set.
+abbrev pub slot_of_read : SlotRead → NodeSlot
+slot_of_read read = record { node = read.node; kind = Attribute read.attribute }
+
+abbrev pub slot_of_set : SetItem → NodeSlot
+slot_of_set item = record { node = item.node; kind = Attribute item.attribute }
+
+abbrev pub slots_read : List SlotRead → List NodeSlot
+slots_read reads = map slot_of_read reads
+
+abbrev pub slots_set : List SetItem → List NodeSlot
+slots_set sets = map slot_of_set sets
+
+-- The slot is one of these.
+abbrev pub is_among : List NodeSlot → PatternSlot → Bool
+is_among slots slot = list_any (λ s. eqb s.node slot.node && is_kind s.kind slot.kind) slots
 
 -- One of the slots is this one.
 abbrev pub has_slot : List PatternSlot → ℕ → SlotKind → Bool
 has_slot slots n kind = list_any (λ slot. eqb slot.node n && is_kind slot.kind kind) slots
 
--- The slots are those of the nodes from this number on that are read, or that are set at a kept
--- node; each once, in order, and marked as written where it is set.
-pub record AreSlots (m : Metamodel) (nodes : List PatternNode) (first : ℕ) (reads : List SlotRead)
-    (sets : List SetItem) (slots : List PatternSlot) : Type 0 where
-  pub in_order : EachPair (SlotBefore m nodes) slots
-  pub at_own : All (λ slot. (first ≤ slot.node) × (node_is is_left nodes slot.node ≡ true)) slots
-  pub needed : All (λ slot. (is_read reads slot || is_set sets slot ≡ true)
-      × (slot.written ≡ is_set sets slot)) slots
-  pub all_read : All (λ read. first ≤ read.node
-      → has_slot slots read.node (Attribute read.attribute) ≡ true) reads
-  pub all_set : All (λ item. node_is is_keep nodes item.node ≡ true
-      → has_slot slots item.node (Attribute item.attribute) ≡ true) sets
+-- The slots are those of the nodes from this number on that are read, or that are written at a kept
+-- node; each is marked as written where it is.
+pub record AreSlots (nodes : List PatternNode) (first : ℕ) (reads writes : List NodeSlot)
+    (slots : List PatternSlot) : Type 0 where
+  pub needed : All (λ slot. (is_among reads slot || is_among writes slot ≡ true)
+      × (slot.written ≡ is_among writes slot)) slots
+  pub all_read : All (λ s. first ≤ s.node → has_slot slots s.node s.kind ≡ true) reads
+  pub all_written : All
+      (λ s. node_is is_keep nodes s.node ≡ true → has_slot slots s.node s.kind ≡ true) writes
+
+-- The form of a shape, whose nodes have the numbers from `first` on among all that it may name: its
+-- nodes and edges fit, and its slots are of its own left nodes, each once and in order.
+pub record IsShape (m : Metamodel) (nodes : List PatternNode) (first : ℕ)
+    (shape : Shape) : Type 0 where
+  pub nodes_fit : All (NodeFits m) shape.nodes
+  pub edges_fit : All (λ edge. EdgeFits m (joins edge.mark) nodes edge) shape.edges
+  pub in_order : EachPair (SlotBefore m nodes) shape.slots
+  pub at_own : All (λ slot. (first ≤ slot.node) × (node_is is_left nodes slot.node ≡ true))
+      shape.slots
 
 -- The slots that a block's expressions read.
 abbrev pub reads_in : List Expr → List SetItem → List SlotRead
@@ -133,13 +154,12 @@ SetOnce sets = EachPair (λ a b. (a.node ≡ b.node) × (a.attribute ≡ b.attri
 pub record IsBlock (m : Metamodel) (rule : Rule) (nodes : List PatternNode) (first : ℕ)
     (shape : Shape) (wheres : List Expr) (sets : List SetItem)
     (reads : List SlotRead) : Type 0 where
-  pub nodes_fit : All (NodeFits m) shape.nodes
-  pub edges_fit : All (λ edge. EdgeFits m (joins edge.mark) nodes edge) shape.edges
+  pub form : IsShape m nodes first shape
   pub wheres_fit : All (λ expr. kind_in (scope_of m rule nodes) expr ≡ Some value.Bool) wheres
   pub sets_fit : All (λ item. (first ≤ item.node) × SetFits m (scope_of m rule nodes) nodes item)
       sets
   pub sets_once : SetOnce sets
-  pub slots : AreSlots m nodes first reads sets shape.slots
+  pub slots : AreSlots nodes first (slots_read reads) (slots_set sets) shape.slots
 
 -- A forbid or require part: its nodes and edges are marked as kept, and its edges join left nodes
 -- of the kernel and its own.

@@ -1,6 +1,6 @@
 -- Valid matches, and the least of them.
-use Rattle.std.specs.Prelude.{ℕ, List, ◌++◌, Option, MatchOption}
-use Rattle.std.specs.List.{All, AllZip, flat_map}
+use Rattle.std.specs.Prelude.{Option, MatchOption}
+use Rattle.std.specs.List.{All, AllZip}
 use Rattle.hs_types.specs.declared.graph.Graph.{Graph}
 use Rattle.hs_types.specs.declared.matching.Match.{Match}
 use Rattle.hs_types.specs.declared.meta.Metamodel.{Metamodel}
@@ -8,23 +8,11 @@ use Rattle.hs_types.specs.declared.request.Args.{Args}
 use Rattle.hs_types.specs.declared.rule.Rule.{Rule}
 use Rattle.hs_types.specs.Arguments.{Follows}
 use Rattle.hs_types.specs.Conditions.{env_of, AreTrue, AreFit, IsAbsent, IsPresent}
-use Rattle.hs_types.specs.Copies.{AreCopies, CopyFits, NoneTouch, copies_of}
-use Rattle.hs_types.specs.Dangling.{dropped_nodes, dropped_edges, NoneDangle}
+use Rattle.hs_types.specs.Copies.{AreCopies, CopyFits, NoneTouch, all_dropped_edges, all_dropped_nodes, copies_of}
+use Rattle.hs_types.specs.Dangling.{NoneDangle}
 use Rattle.hs_types.specs.MatchOrder.{IsEarlier}
 use Rattle.hs_types.specs.Pattern.{left_nodes}
 use Rattle.hs_types.specs.PlainMatch.{IsPlain, kernel_of}
-
--- The objects, and the edges, that a match drops: the kernel's first, then copy by copy, in written
--- order.
-abbrev pub all_dropped_nodes : Rule → Match → List ℕ
-all_dropped_nodes rule f =
-    dropped_nodes rule.shape (kernel_of f)
-    ++ flat_map (λ copy. dropped_nodes copy.multi.shape copy.found) (copies_of rule f)
-
-abbrev pub all_dropped_edges : Rule → Match → List ℕ
-all_dropped_edges rule f =
-    dropped_edges rule.shape (kernel_of f)
-    ++ flat_map (λ copy. dropped_edges copy.multi.shape copy.found) (copies_of rule f)
 
 -- The rule can be applied here.
 pub record IsValid (m : Metamodel) (g : Graph) (rule : Rule) (args : Args)

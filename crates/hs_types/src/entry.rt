@@ -1,8 +1,9 @@
 //! Entries of a journal.
 
-ghost use Rattle.std.specs.Prelude.{◌<◌, ◌^◌};
+ghost use Rattle.std.specs.Prelude.{◌≡◌, ◌<◌, ◌^◌, map, true};
+ghost use Rattle.hs_expr.specs.Lexicographic.{rises};
 
-use crate::{Args, ClassNo, EdgeNo, Slot};
+use crate::{Args, EdgeNo};
 use hs_expr::{List, Text, Value};
 
 /// An entry of the journal: what one request of one session did.
@@ -64,12 +65,23 @@ pub struct ExtensionNames {
     pub edges: List<EdgeNo>,
 }
 
-/// An object that was deleted, as it was.
+/// An object that was deleted, as it was. It is given by names, so that an entry can be read even
+/// where these names denote nothing.
 #[derive(Debug, Drop)]
 pub struct Gone {
     pub name: Text,
-    pub class: ClassNo,
-    pub slots: List<Slot>,
+    /// The name of its class.
+    pub class: Text,
+    /// Its values by attribute, each name once, in byte order.
+    pub values: List<NamedValue>,
+    ghost in_order: { rises (map (λ value. value.attribute) values) ≡ true },
+}
+
+/// A value with the name of its attribute.
+#[derive(Debug, Drop)]
+pub struct NamedValue {
+    pub attribute: Text,
+    pub value: Value,
 }
 
 /// Why an entry isn't lawful, in the order in which it is asked.

@@ -13,7 +13,6 @@ mod data_type;
 mod entry;
 mod features;
 mod graph;
-mod laws;
 pub mod limits;
 mod lookup;
 mod matching;
@@ -27,9 +26,8 @@ mod rule_set;
 mod unit;
 
 pub use conformance::Meta;
-pub use entry::{Cause, Entry, ExtensionNames, Gone, MatchNames, Outcome, Tried, What};
+pub use entry::{Cause, Entry, ExtensionNames, Gone, MatchNames, NamedValue, Outcome, Tried, What};
 pub use graph::{Edge, EdgeNo, Graph, ListGraph, Object, ObjectNo, Slot};
-pub use laws::rule_sets_are_formed;
 pub use matching::{Extension, Match};
 pub use meta::{Class, ClassNo, DataType, Feature, FeatureKind, FeatureNo, Metamodel};
 pub use pattern::{
@@ -37,7 +35,7 @@ pub use pattern::{
 };
 pub use plan::{End, MadeEdge, MadeObject, Plan, Write};
 pub use reachability::{reach_rows, reaches};
-pub use request::{Arg, Args, NamedArg, Request};
+pub use request::{Arg, Args, NamedArg, Out, Outs, Request};
 pub use rule::{
     Direction, Mark, Multi, Param, ParamKind, Part, PatternEdge, PatternNode, PatternSlot, Rule,
     SetItem, Shape, SlotKind,

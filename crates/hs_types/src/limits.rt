@@ -55,3 +55,9 @@ pub const MAX_PARALLEL_EDGES: usize = 3;
 
 /// The most calls of a unit.
 pub const MAX_CALLS: usize = 16;
+
+/// The most sessions.
+pub const MAX_SESSIONS: u32 = 64;
+
+/// The most entries of a journal.
+pub const MAX_ENTRIES: u32 = 1_000_000;

@@ -25,6 +25,19 @@ pub struct Args {
     pub list: List<NamedArg>,
 }
 
+/// An out parameter with the name of its object.
+#[derive(Debug, Drop)]
+pub struct Out {
+    pub parameter: Text,
+    pub object: Text,
+}
+
+/// What a call gives back: the out parameters that have a value, each name once, in byte order.
+#[derive(Debug, Drop)]
+pub struct Outs {
+    pub list: List<Out>,
+}
+
 /// What a session asks for: a call of a rule or a unit.
 #[derive(Debug, Drop)]
 pub struct Request {

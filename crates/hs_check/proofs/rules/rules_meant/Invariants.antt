@@ -1,6 +1,6 @@
-use Rattle.std.proofs.Common.{◌≡◌, ◌++◌, drop}
-use Rattle.hs_check.specs.Rules.{rules_meant}
+use Rattle.std.proofs.Common.{◌≡◌, map, take}
+use Rattle.hs_check.specs.Rules.{rule_from}
 use Rattle.hs_check.proofs.rules.rules_meant.Given as goal
 
-abbrev pub invariant-loop-definition : goal.invariant-loop-definition
-invariant-loop-definition l = l.rules ++ rules_meant l.meta (drop l.definition-index l.definitions) ≡ rules_meant l.meta l.definitions
+abbrev pub invariant-loop-contents : goal.invariant-loop-contents
+invariant-loop-contents l = l.rules ≡ map (rule_from l.meta) (take l.contents-index l.all)

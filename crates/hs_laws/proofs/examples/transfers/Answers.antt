@@ -47,17 +47,19 @@ returns-clause-is_rule c = record {
   params_fit = search rules;
   names_differ = search rules;
   kernel = record {
-    nodes_fit = All-two (NodeFits model) (node (codes "from") 1 Keep) (node (codes "to") 1 Keep) account_fits account_fits;
-    edges_fit = search rules;
+    form = record {
+      nodes_fit = All-two (NodeFits model) (node (codes "from") 1 Keep) (node (codes "to") 1 Keep) account_fits account_fits;
+      edges_fit = search rules;
+      in_order = search rules;
+      at_own = search rules;
+    };
     wheres_fit = All-one W where_ (simp kinds refl);
     sets_fit = All-two F first second (search rules, (search rules, simp kinds refl)) (search rules, (search rules, simp kinds refl));
     sets_once = search rules;
     slots = record {
-      in_order = search rules;
-      at_own = search rules;
       needed = simp reads (search rules);
       all_read = simp reads (search rules);
-      all_set = search rules;
+      all_written = search rules;
     };
   };
   forbids = search rules;

@@ -10,13 +10,13 @@ use Rattle.hs_laws.specs.Bank.{arrow, balance_of, node, number, set_balance}
 use Rattle.hs_laws.proofs.refusals.malformed_rules.Goals as goal
 
 pub returns-clause-abstract_node : goal.returns-clause-abstract_node
-returns-clause-abstract_node c h = both_ways true ((h.kernel.nodes_fit 0 (node (codes "a") 0 Make) (lit< tt)).1 refl) refl
+returns-clause-abstract_node c h = both_ways true ((h.kernel.form.nodes_fit 0 (node (codes "a") 0 Make) (lit< tt)).1 refl) refl
 
 pub returns-clause-kept_at_dropped : goal.returns-clause-kept_at_dropped
-returns-clause-kept_at_dropped c h = both_ways false refl (h.kernel.edges_fit 0 (arrow 0 0 1 Keep) (lit< tt)).0.0
+returns-clause-kept_at_dropped c h = both_ways false refl (h.kernel.form.edges_fit 0 (arrow 0 0 1 Keep) (lit< tt)).0.0
 
 pub returns-clause-foreign : goal.returns-clause-foreign
-returns-clause-foreign c h = both_ways false refl (h.kernel.edges_fit 0 (arrow 1 0 0 Keep) (lit< tt)).0.1
+returns-clause-foreign c h = both_ways false refl (h.kernel.form.edges_fit 0 (arrow 1 0 0 Keep) (lit< tt)).0.1
 
 pub returns-clause-number_condition : goal.returns-clause-number_condition
 returns-clause-number_condition c h = let e : Some kind.Int ≡ Some kind.Bool = sym (kind_in-Literal _ (value.Int (pos 1))) ∙ h.kernel.wheres_fit 0 (number (pos 1)) (lit< tt) in absurd (cc)

@@ -1,4 +1,4 @@
-use Rattle.hs_types.specs.ValidMatch.{all_dropped_edges}
+use Rattle.hs_types.specs.Copies.{all_dropped_edges}
 use Rattle.hs_laws.proofs.Stepped.{never_dangles}
 use Rattle.hs_laws.proofs.steps.nothing_dangles_without_deletion.Goals as goal
 
