@@ -1,3 +1,4 @@
+pub mod Borrowed
 pub mod Names
 pub mod Lookups
 pub mod Links
