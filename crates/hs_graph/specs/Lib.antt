@@ -8,3 +8,4 @@ pub mod Words
 pub mod Samples
 pub mod Problems
 pub mod Index
+pub mod Ends
