@@ -162,7 +162,7 @@ binds_apart binds own = EachPair-map (λ x y. x ≡ y → ⊥) form.bound_name (
     (EachPair-from (λ (a b : WrittenBind). form.bound_name (bind_meant a) ≡ form.bound_name (bind_meant b) → ⊥) binds (λ i j a b low at_i at_j same.
     names_apart tied_name binds own i j a b low at_i at_j (sym (name_same a) ∙ same ∙ name_same b))))
 
--- Where each parameter has a name of its own, all are meant.
+-- Where each parameter has a name of its own, all of them count.
 all_meant : (params : List WrittenParam) → HaveOwn (λ (p : WrittenParam). p.name) params → meant_params params ≡ params
 all_meant params own = each_kept (λ i (p : WrittenParam). is_again (λ (other : WrittenParam). other.name) (take i params) p.name) 0 params
     (λ k p at. ap (λ i. is_again (λ (other : WrittenParam). other.name) (take i params) p.name) (zero-add k) ∙ own k p at)

@@ -1,9 +1,9 @@
--- What comes of definitions in steps, and what a look-up in steps has found.
+-- What definitions in steps give, and what a look-up in steps has found.
 use Rattle.std.proofs.Common.{◌≡◌, Bool, true, false, Option, Some, None, if◌then◌else◌, refl, ap, sym, ◌∙◌}
 use Rattle.std.proofs.lemmas.Option.{none-some}
 use Rattle.std.specs.Option.{option_and_then, option_map_or}
 
--- The first step's value, where two steps come to something.
+-- The first step's value, where two steps give one.
 pub came : {A B : Type 0} (o : Option A) (next : A → Option B) (y : B) → option_and_then next o ≡ Some y → (x : A) × (o ≡ Some x) × (next x ≡ Some y)
 came None next y e = absurd (none-some y e)
 came (Some x) next y e = (x, refl, e)

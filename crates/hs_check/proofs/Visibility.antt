@@ -137,7 +137,7 @@ kernel_at m ds numbered few k d at kernel =
     let number : d.number ≡ number_at place = numbered k d at ∙ ap (λ (h : BlockId). number_at (first_number ds h + count_in (take k ds) h)) (kernel_is d.block kernel) ∙ ap number_at (zero-add place) in
     ap (slice_get nodes) (place_is nodes (node_meant m d) place d.number few there number) ∙ there
 
--- A node of a block is at its number behind the kernel's.
+-- A node of a block is at its number after the kernel's.
 block_at : (m : Metamodel) (ds : List DeclaredNode) → AreNumbered ds → (part : BlockId) → is_kernel part ≡ false → length (nodes_in m ds home.Kernel ++ nodes_in m ds part) ≤ 65536 → (k : ℕ) (d : DeclaredNode) → slice_get ds k ≡ Some d → same_block part d.block ≡ true →
     (slice_get (nodes_in m ds home.Kernel ++ nodes_in m ds part) d.number ≡ Some (node_meant m d)) × (length (nodes_in m ds home.Kernel) ≤ d.number)
 block_at m ds numbered part block few k d at own =

@@ -43,7 +43,7 @@ multi_at i (item.Forbid elements) = []
 multi_at i (item.Require elements) = []
 multi_at i (item.Multi simples) = home.Multi i ∷ []
 
--- A forbid or require block. The numbers of its nodes go on from the kernel's.
+-- A forbid or require block. Its nodes are numbered after the kernel's.
 abbrev pub part_meant : Metamodel → RuleContents → BlockId → Part
 part_meant m contents part = record {
   nodes = nodes_in m contents.nodes part;
@@ -99,7 +99,7 @@ rule_with m contents kernel multis = record {
   sets = kernel.sets;
 }
 
--- The rule with this kernel: its multi-rules go on from the kernel's nodes.
+-- The rule with this kernel. The nodes of its multi-rules are numbered after the kernel's.
 abbrev pub rule_around : Metamodel → RuleContents → Block → Rule
 rule_around m contents kernel =
     rule_with m contents kernel

@@ -64,7 +64,7 @@ hiring = rule_definition (codes "open")
     (record { pieces = piece.Name (word 0 (codes "n")) ∷ []; one = refl }))
     ∷ [])
 
--- What the parts of these come to.
+-- What the parts of these denote.
 abbrev pub an_account : List ℕ → Mark → PatternNode
 an_account name mark = record { name = name; class = 1; mark = mark }
 

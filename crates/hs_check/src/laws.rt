@@ -20,7 +20,7 @@ pub fn sets_are_formed()
 {}
 
 /// Where a text has no fault, each condition and each set of each rule is in the rule that it
-/// means: part by part there are as many as in the text, in written order.
+/// means: each part has the same number of them as in the text, in written order.
 pub fn nothing_is_left_out()
     ensures { (m : Metamodel) (definitions : List Definition) → faults_of m definitions ≡ []
         → KeepAll definitions (rules_meant m definitions) }

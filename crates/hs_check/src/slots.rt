@@ -153,7 +153,7 @@ fn add_slots_of(
     }
 }
 
-/// The slots of these nodes that are read or set. Their numbers go on from those before.
+/// The slots of these nodes that are read or set. The nodes are numbered after those before.
 pub fn slots_from(
     alloc: Global,
     meta: &Meta,

@@ -165,7 +165,7 @@ meant_params params =
 abbrev pub is_bound : List Bind → Param → Bool
 is_bound binds param = is_some (first_named tied_name binds param.name.text)
 
--- Each of the parameters that are meant, to which something has to be given, is bound.
+-- Each parameter to which something has to be given is bound. Of two with one name the first counts.
 abbrev pub are_served : List Param → List Bind → Bool
 are_served params binds = list_all (is_bound binds) (filter takes_value (meant_params params))
 
@@ -278,7 +278,7 @@ unit_called rules units call =
 abbrev pub called_units : List Rule → List WrittenUnit → WrittenUnit → List ℕ
 called_units rules units unit = filter_map (unit_called rules units) (written_calls unit.body)
 
--- A unit that calls itself by a path: of each unit there is whom it calls.
+-- A unit that calls itself by a path of calls, in the graph of which unit calls which.
 abbrev pub cycle_fault : List (List ℕ) → ℕ → WrittenUnit → List RuleFault
 cycle_fault called i unit =
     fault_if (reaches called i i) (unit_fault_at unit.name.span kind.UnitCycle)

@@ -8,7 +8,7 @@ ghost use Rattle.hs_faults.specs.Faults.{faults_of_rules};
 ghost use Rattle.hs_faults.specs.UnitFaults.{faults_of_units};
 ghost use Rattle.hs_faults.specs.Samples.{small_bank, call, edge, give, give_number, node_item, only_fault, only_unit, param, rule_definition, set, take, statement_faults_of, unit};
 
-/// Names that come again, and parameters without their nodes.
+/// Repeated names, and parameters without their nodes.
 pub fn names_tried()
     ensures fine { faults_of_rules small_bank
         (rule_definition (codes "r") (param In 1 (codes "a") (codes "Client") ∷ [])

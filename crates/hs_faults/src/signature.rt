@@ -16,7 +16,7 @@ use hs_text::{Definition, Param};
 use std::alloc::{AllocError, Global};
 use std::marker::Model;
 
-/// A parameter that is meant. Contracts see it as the parameter.
+/// A parameter that counts: the first of its name. Contracts see it as the parameter.
 #[derive(Drop)]
 pub struct MeantParam<'a> {
     pub param: &'a Param,

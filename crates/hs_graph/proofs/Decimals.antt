@@ -10,7 +10,7 @@ twice_capped n = omega (arith, clamps)
 digit_capped : (n d : ℕ) → min 3000000001 (min 3000000001 n * 10 + d) ≡ min 3000000001 (n * 10 + d)
 digit_capped n d = omega (arith, clamps)
 
--- A number that is capped before its last digits comes to the same.
+-- A number that is capped before its last digits is the same.
 pub capped_first : (n : ℕ) (bs : List ℕ) → min 3000000001 (number_after (min 3000000001 n) bs) ≡ min 3000000001 (number_after n bs)
 capped_first n [] = twice_capped n
 capped_first n (b ∷ bs) =

@@ -8,3 +8,5 @@ pub mod Clean
 pub mod Slots
 pub mod Opening
 pub mod Inside
+pub mod Runs
+pub mod Numbered

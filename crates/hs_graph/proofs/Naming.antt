@@ -1,5 +1,5 @@
 -- The walk over the names of objects.
-use Rattle.std.proofs.Common.{ℕ, ◌+◌, ◌<◌, ◌≡◌, ◌++◌, List, ◌∷◌, Bool, true, false, not, max, drop, get_or, length, Some, None, Ok, refl, ap, sym, ◌∙◌, arith, if◌then◌else◌}
+use Rattle.std.proofs.Common.{ℕ, ◌+◌, ◌<◌, ◌≡◌, ◌++◌, List, ◌∷◌, Bool, true, false, not, max, drop, get_or, length, Some, None, Ok, Err, refl, ap, sym, ◌∙◌, arith, if◌then◌else◌}
 use Rattle.std.proofs.lemmas.Int.{clamps}
 use Rattle.std.proofs.lemmas.List.{drop_more}
 use Rattle.std.proofs.lemmas.Option.{none-some, same_Some}
@@ -17,6 +17,10 @@ passed false n k e = absurd (none-some k (sym e))
 -- Two tests of which neither finds a fault.
 pub neither : {E : Type 0} (a b : Bool) (f g : E) → a ≡ true → b ≡ false → verdict (fault_if (not a) f ++ fault_if b g) ≡ Ok tt
 neither a b f g p q = rw (p, q) refl
+
+-- Two tests of which the second alone finds its fault.
+pub second : {E : Type 0} (a b : Bool) (f g : E) → a ≡ true → b ≡ true → verdict (fault_if (not a) f ++ fault_if b g) ≡ Err g
+second a b f g p q = rw (p, q) refl
 
 larger_of_three : (a b c : ℕ) → max (max a b) c ≡ max a (max b c)
 larger_of_three a b c = omega (arith, clamps)

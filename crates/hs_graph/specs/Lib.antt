@@ -1,3 +1,4 @@
+pub mod Borrowed
 pub mod Names
 pub mod Lookups
 pub mod Links
@@ -7,3 +8,4 @@ pub mod Words
 pub mod Samples
 pub mod Problems
 pub mod Index
+pub mod Ends

@@ -1,7 +1,10 @@
 -- What the names in written objects denote: classes and features of a metamodel, and objects.
 use Rattle.std.specs.Prelude.{ℕ, List, map, Bool, false, is_some, ◌&&◌, Option}
+use Rattle.std.specs.Borrow.{Bor}
+use Rattle.std.specs.HashMap.{HashMap, get_by}
 use Rattle.std.specs.List.{find, position}
 use Rattle.std.specs.Option.{option_map_or, unwrap_or}
+use Rattle.std.specs.Str.{bytes_eq}
 use Rattle.hs_types.specs.declared.meta.Feature.{Feature}
 use Rattle.hs_types.specs.declared.meta.Metamodel.{Metamodel}
 use Rattle.hs_expr.specs.Lists.{same_text}
@@ -15,6 +18,10 @@ object_names objects = map (λ object. object.name) objects
 -- The place of a name among these.
 abbrev pub place_of : List (List ℕ) → List ℕ → Option ℕ
 place_of names name = position (same_text name) names
+
+-- What a map by borrowed names finds by this name.
+abbrev pub number_named : {X S : Type 0} → HashMap (Bor (List ℕ)) X S → List ℕ → Option X
+number_named numbers name = get_by (λ k. bytes_eq name k.now) numbers
 
 -- The number of the object's class; 0 where there is no such class.
 abbrev pub class_of_object : Metamodel → RawObject → ℕ

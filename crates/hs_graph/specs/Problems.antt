@@ -1,7 +1,7 @@
 -- The problems of a typed graph: references with too few or too many targets, objects with more
 -- than one container, and objects that contain themselves.
-use Rattle.std.specs.Prelude.{ℕ, ◌≡◌, List, [], ◌++◌, map, length, Bool, true, false, eqb, nat_lt, Option, Some, None}
-use Rattle.std.specs.List.{filter, flat_map, range_with_len}
+use Rattle.std.specs.Prelude.{ℕ, ◌≡◌, List, [], ◌++◌, map, length, Bool, true, false, eqb, nat_lt, if◌then◌else◌, Option, Some, None}
+use Rattle.std.specs.List.{filter, filter_map, flat_map, position}
 use Rattle.std.specs.Option.{option_map_or}
 use Rattle.hs_expr.specs.Verdict.{fault_if}
 use Rattle.hs_types.specs.declared.graph.Edge.{Edge}
@@ -56,34 +56,45 @@ contains_by (Reference target containment lower upper) = containment
 abbrev pub is_containment : Metamodel → ℕ → Bool
 is_containment m f = option_map_or (λ feature. contains_by feature.kind) (feature_at m f) false
 
--- How many of these edges contain their target.
-abbrev pub containers_count : Metamodel → List Edge → ℕ
-containers_count m incoming = length (filter (λ edge. is_containment m edge.reference) incoming)
+-- How many edges contain object n.
+abbrev pub containers_count : Metamodel → Graph → ℕ → ℕ
+containers_count m g n =
+    length (filter (λ edge. is_containment m edge.reference) (edges_entering g n))
 
 -- The objects that object n contains.
 abbrev pub contained_objects : Metamodel → Graph → ℕ → List ℕ
 contained_objects m g n =
     map (λ edge. edge.target) (filter (λ edge. is_containment m edge.reference) (edges_leaving g n))
 
--- Of each number that an object can have the objects that it contains.
+-- The index of object n among the graph's objects.
+abbrev pub index_of : Graph → ℕ → Option ℕ
+index_of g n = position (λ object. eqb object.number n) g.objects
+
+-- The index of the object that an edge contains, if it contains one.
+abbrev pub contained_index : Metamodel → Graph → Edge → Option ℕ
+contained_index m g edge = if is_containment m edge.reference then index_of g edge.target else None
+
+-- Of each object, by index, the indices of the objects that it contains.
 abbrev pub containment_lists : Metamodel → Graph → List (List ℕ)
-containment_lists m g = map (contained_objects m g) (range_with_len 0 g.next_object)
+containment_lists m g =
+    map (λ object. filter_map (contained_index m g) (edges_leaving g object.number)) g.objects
 
 -- Object n contains itself, by one step or more.
 abbrev pub is_in_itself : Metamodel → Graph → ℕ → Bool
-is_in_itself m g n = reaches (containment_lists m g) n n
+is_in_itself m g n = option_map_or (λ i. reaches (containment_lists m g) i i) (index_of g n) false
 
--- What is wrong with an object that has these edges: reference by reference in the order of its
--- class, then its containers, then that it contains itself.
-abbrev pub problems_by : Metamodel → List Edge → List Edge → Bool → Object → List Problem
-problems_by m outgoing incoming in_itself object =
+-- What is wrong with an object that these edges leave, and that has this number of containers:
+-- reference by reference in the order of its class, then its containers, then that it contains
+-- itself.
+abbrev pub problems_by : Metamodel → List Edge → ℕ → Bool → Object → List Problem
+problems_by m outgoing containers in_itself object =
     flat_map (feature_problems_by m outgoing object.number) (features_of m object.class)
-    ++ (fault_if (nat_lt 1 (containers_count m incoming)) (problem object.number kind.Containers)
+    ++ (fault_if (nat_lt 1 containers) (problem object.number kind.Containers)
     ++ fault_if in_itself (problem object.number kind.Cycle))
 
 abbrev pub problems_at : Metamodel → Graph → Object → List Problem
 problems_at m g object =
-    problems_by m (edges_leaving g object.number) (edges_entering g object.number)
+    problems_by m (edges_leaving g object.number) (containers_count m g object.number)
     (is_in_itself m g object.number) object
 
 -- The problems of all objects, object by object.

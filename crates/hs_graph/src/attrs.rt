@@ -8,6 +8,7 @@ ghost use Rattle.hs_graph.specs.Faults as spec;
 ghost use Rattle.hs_graph.specs.Lookups as lookups;
 ghost use Rattle.hs_graph.specs.Meaning as meaning;
 
+use crate::borrowed::ValueRef;
 use crate::fault::{GraphFault, GraphFaultKind, GraphPlace, fault};
 use crate::lookups::{attribute_named, is_attribute_named};
 use crate::raw::{RawAttr, RawObject, RawValue};
@@ -21,14 +22,14 @@ use std::alloc::{AllocError, Global};
 pub fn attrs_right(
     meta: &Meta,
     classes: &[ClassNo],
-    objects: &[RawObject],
+    objects: &[RawObject<'_>],
 ) -> Result<(), GraphFault>
     requires { classes.now ≡ lookups.classes_of_objects meta.now objects.now }
     ensures { result ≡ verdict (spec.attr_faults meta.now objects.now) }
 {
     check_each(
         objects,
-        &|i: usize, object: &RawObject| attrs_right_at(meta, classes, i, object),
+        &|i: usize, object: &RawObject<'_>| attrs_right_at(meta, classes, i, object),
     )
 }
 
@@ -36,7 +37,7 @@ fn attrs_right_at(
     meta: &Meta,
     classes: &[ClassNo],
     i: usize,
-    object: &RawObject,
+    object: &RawObject<'_>,
 ) -> Result<(), GraphFault>
     requires { i < length classes.now }
     ensures { (objects : List RawObject) → classes.now ≡ lookups.classes_of_objects meta.now objects
@@ -51,13 +52,13 @@ fn attrs_right_in(
     meta: &Meta,
     class: ClassNo,
     i: usize,
-    attrs: &[RawAttr],
+    attrs: &[RawAttr<'_>],
 ) -> Result<(), GraphFault>
     ensures { result ≡ verdict (each (spec.attr_faults_at meta.now class i) attrs.now) }
 {
     check_each(
         attrs,
-        &|a: usize, attr: &RawAttr| attr_right(meta, class, i, a, attr),
+        &|a: usize, attr: &RawAttr<'_>| attr_right(meta, class, i, a, attr),
     )
 }
 
@@ -66,7 +67,7 @@ fn attr_right(
     class: ClassNo,
     i: usize,
     a: usize,
-    attr: &RawAttr,
+    attr: &RawAttr<'_>,
 ) -> Result<(), GraphFault>
     ensures { result ≡ verdict (spec.attr_faults_at meta.now class i a attr.now) }
 {
@@ -74,7 +75,7 @@ fn attr_right(
         object: i,
         number: a,
     };
-    match attribute_named(meta, class, &attr.name) {
+    match attribute_named(meta, class, attr.name.as_str()) {
         Some(attribute) => fault_if(
             !takes(meta, attribute, &attr.value),
             fault(place, GraphFaultKind::BadValue),
@@ -88,14 +89,14 @@ pub fn slots_for(
     alloc: Global,
     meta: &Meta,
     class: ClassNo,
-    attrs: &[RawAttr],
+    attrs: &[RawAttr<'_>],
 ) -> Result<List<Slot>, AllocError>
     ensures { IfOk result (λ slots. slots ≡ meaning.slots_for meta.now class attrs.now) }
 {
     let mut slots = List::new(alloc);
     for feature in meta.features_of(class) {
         match meta.default_of(*feature) {
-            Some(default) => slots.push(slot_for(meta, attrs, *feature, default)?)?,
+            Some(default) => slots.push(slot_for(alloc, meta, attrs, *feature, default)?)?,
             None => {}
         }
     }
@@ -104,8 +105,9 @@ pub fn slots_for(
 
 /// The slot for the attribute, which has this default.
 fn slot_for(
+    alloc: Global,
     meta: &Meta,
-    attrs: &[RawAttr],
+    attrs: &[RawAttr<'_>],
     attribute: FeatureNo,
     default: &Value,
 ) -> Result<Slot, AllocError>
@@ -115,32 +117,37 @@ fn slot_for(
           value = unwrap_or (meaning.written_value meta.now attrs.now attribute) default.now;
         }) }
 {
-    Ok(Slot {
-        attribute,
-        value: written_value(meta, attrs, attribute)
-            .unwrap_or(default)
-            .clone()?,
-    })
+    let value = match written_value(meta, attrs, attribute) {
+        Some(written) => written.to_value(alloc)?,
+        None => default.clone()?,
+    };
+    Ok(Slot { attribute, value })
 }
 
 /// The value that is written for the attribute.
-fn written_value<'a>(meta: &Meta, attrs: &'a [RawAttr], attribute: FeatureNo) -> Option<&'a Value>
+fn written_value<'a, 'b>(
+    meta: &Meta,
+    attrs: &'a [RawAttr<'b>],
+    attribute: FeatureNo,
+) -> Option<&'a ValueRef<'b>>
     ensures { option_copied result ≡ meaning.written_value meta.now attrs.now attribute }
 {
     value_of_raw(&attr_for(meta, attrs, attribute)?.value)
 }
 
 /// What is written for the attribute.
-fn attr_for<'a>(meta: &Meta, attrs: &'a [RawAttr], attribute: FeatureNo) -> Option<&'a RawAttr>
+fn attr_for<'a, 'b>(
+    meta: &Meta,
+    attrs: &'a [RawAttr<'b>],
+    attribute: FeatureNo,
+) -> Option<&'a RawAttr<'b>>
     ensures { option_copied result
         ≡ find (λ attr. lookups.is_attribute_named meta.now attr.name attribute) attrs.now }
 {
-    attrs
-        .iter()
-        .find(|attr| is_attribute_named(meta, &attr.name, attribute))
+    attrs.iter().find(|attr| is_attribute_named(meta, attr.name.as_str(), attribute))
 }
 
-fn value_of_raw(written: &RawValue) -> Option<&Value>
+fn value_of_raw<'a, 'b>(written: &'a RawValue<'b>) -> Option<&'a ValueRef<'b>>
     ensures { option_copied result ≡ meaning.value_of_raw written.now }
 {
     match written {

@@ -1,20 +1,20 @@
 //! The edges that references mean.
 
 ghost use Rattle.std.specs.Prelude.{◌≡◌, ◌≤◌, ◌++◌, ℕ, List, map, length, IfOk, OnOk, option_copied, unwrap_or};
-ghost use Rattle.std.specs.HashMap.{get_by_text};
 ghost use Rattle.std.specs.List.{find};
 ghost use Rattle.hs_expr.specs.Steps.{GivesWhere};
 ghost use Rattle.hs_expr.specs.Verdict.{verdict};
 ghost use Rattle.hs_graph.specs.Faults as faults;
 ghost use Rattle.hs_graph.specs.Links as spec;
-ghost use Rattle.hs_graph.specs.Lookups.{classes_of_objects, is_reference_named as named, object_names, place_of};
+ghost use Rattle.hs_graph.specs.Lookups.{classes_of_objects, is_reference_named as named, number_named, object_names, place_of};
 ghost use Rattle.hs_graph.specs.Meaning as meaning;
 
+use crate::borrowed::TextRef;
 use crate::fault::{GraphFault, GraphFaultKind, GraphPlace, fault};
 use crate::lookups::is_reference_named;
 use crate::numbers::Numbers;
 use crate::raw::{RawObject, RawRef};
-use hs_expr::{Failure, List, Text};
+use hs_expr::{Failure, List};
 use hs_types::limits::{MAX_EDGES, MAX_OBJECTS};
 use hs_types::{ClassNo, Edge, EdgeNo, FeatureNo, Meta, ObjectNo};
 use std::alloc::{AllocError, Global};
@@ -31,14 +31,14 @@ pub struct Link {
 pub fn all_links(
     alloc: Global,
     meta: &Meta,
-    numbers: &Numbers,
+    numbers: &Numbers<'_>,
     classes: &[ClassNo],
-    objects: &[RawObject],
+    objects: &[RawObject<'_>],
 ) -> Result<List<Link>, Failure<GraphFault>>
     requires few { length objects.now ≤ MAX_OBJECTS }
     requires resolved { classes.now ≡ classes_of_objects meta.now objects.now }
     requires numbered { (name : List ℕ)
-        → get_by_text numbers.now name ≡ place_of (object_names objects.now) name }
+        → number_named numbers.now name ≡ place_of (object_names objects.now) name }
     ensures gives { GivesWhere (λ links. links ≡ spec.all_links meta.now objects.now) result
         (verdict (faults.many_edges meta.now objects.now)) }
     ensures few { IfOk result (λ links. length links ≤ MAX_EDGES) }
@@ -63,58 +63,65 @@ pub fn all_links(
 /// Adds the edges of a source, reference by reference in the order of its class.
 fn add_links(
     meta: &Meta,
-    numbers: &Numbers,
+    numbers: &Numbers<'_>,
     source: ObjectNo,
     class: ClassNo,
-    refs: &[RawRef],
+    refs: &[RawRef<'_>],
     links: &mut List<Link>,
 ) -> Result<(), AllocError>
     ensures { (names : List (List ℕ))
-        → ((name : List ℕ) → get_by_text numbers.now name ≡ place_of names name)
+        → ((name : List ℕ) → number_named numbers.now name ≡ place_of names name)
         → OnOk result (links.new
         ≡ links.old ++ spec.links_of meta.now names source class refs.now) }
 {
     for feature in meta.features_of(class) {
-        add_targets(
-            numbers,
-            source,
-            *feature,
-            targets_at(meta, refs, *feature),
-            links,
-        )?;
+        add_links_at(meta, numbers, source, *feature, refs, links)?;
     }
     Ok(())
 }
 
-/// The names of the targets that are written for a feature.
-fn targets_at<'a>(meta: &Meta, refs: &'a [RawRef], feature: FeatureNo) -> &'a [Text]
-    ensures { result.now ≡ spec.targets_at meta.now refs.now feature }
+/// Adds the edges of a source at a feature.
+fn add_links_at(
+    meta: &Meta,
+    numbers: &Numbers<'_>,
+    source: ObjectNo,
+    feature: FeatureNo,
+    refs: &[RawRef<'_>],
+    links: &mut List<Link>,
+) -> Result<(), AllocError>
+    ensures { (names : List (List ℕ))
+        → ((name : List ℕ) → number_named numbers.now name ≡ place_of names name)
+        → OnOk result (links.new ≡ links.old
+        ++ map (spec.link_of names source feature) (spec.targets_at meta.now refs.now feature)) }
 {
     match ref_for(meta, refs, feature) {
-        Some(found) => found.targets.as_slice(),
-        None => &[],
+        Some(found) => add_targets(numbers, source, feature, found.targets.as_slice(), links),
+        None => Ok(()),
     }
 }
 
 /// What is written for a reference.
-fn ref_for<'a>(meta: &Meta, refs: &'a [RawRef], feature: FeatureNo) -> Option<&'a RawRef>
+fn ref_for<'a, 'b>(
+    meta: &Meta,
+    refs: &'a [RawRef<'b>],
+    feature: FeatureNo,
+) -> Option<&'a RawRef<'b>>
     ensures { option_copied result
         ≡ find (λ written. named meta.now written.name feature) refs.now }
 {
-    refs.iter()
-        .find(|written| is_reference_named(meta, &written.name, feature))
+    refs.iter().find(|written| is_reference_named(meta, written.name.as_str(), feature))
 }
 
 /// Adds an edge for each target of the source at this reference.
 fn add_targets(
-    numbers: &Numbers,
+    numbers: &Numbers<'_>,
     source: ObjectNo,
     reference: FeatureNo,
-    targets: &[Text],
+    targets: &[TextRef<'_>],
     links: &mut List<Link>,
 ) -> Result<(), AllocError>
     ensures { (names : List (List ℕ))
-        → ((name : List ℕ) → get_by_text numbers.now name ≡ place_of names name)
+        → ((name : List ℕ) → number_named numbers.now name ≡ place_of names name)
         → OnOk result (links.new
         ≡ links.old ++ map (spec.link_of names source reference) targets.now) }
 {
@@ -129,8 +136,8 @@ fn add_targets(
 }
 
 /// The number of the object of this name, or 0 where there is none.
-fn number_of(numbers: &Numbers, name: &Text) -> ObjectNo
-    ensures { result ≡ unwrap_or (get_by_text numbers.now name.now) 0 }
+fn number_of(numbers: &Numbers<'_>, name: &TextRef<'_>) -> ObjectNo
+    ensures { result ≡ unwrap_or (number_named numbers.now name.now) 0 }
 {
     numbers.get(name.as_str()).copied().unwrap_or(0)
 }
@@ -140,7 +147,7 @@ pub fn numbered_edges(alloc: Global, links: &[Link]) -> Result<List<Edge>, Alloc
     requires { length links.now ≤ MAX_EDGES }
     ensures { IfOk result (λ made. made ≡ meaning.edges_of_links 0 links.now) }
 {
-    let mut made = List::new(alloc);
+    let mut made = List::from_vec(Vec::with_capacity(alloc, links.len())?);
     for (i, link) in links.iter().enumerate() {
         made.push(edge_of(i as u32, link))?;
     }

@@ -1,7 +1,6 @@
 //! The typed graph that written objects denote.
 
 ghost use Rattle.std.specs.Prelude.{◌≡◌, ◌≤◌, ◌++◌, ℕ, List, Ok, length, OnOk};
-ghost use Rattle.std.specs.HashMap.{get_by_text};
 ghost use Rattle.hs_expr.specs.Steps.{Gives};
 ghost use Rattle.hs_expr.specs.Verdict.{unless, verdict};
 ghost use Rattle.hs_graph.specs.Faults as spec;
@@ -27,7 +26,7 @@ use std::alloc::Global;
 pub fn build(
     alloc: Global,
     meta: &Meta,
-    objects: &[RawObject],
+    objects: &[RawObject<'_>],
 ) -> Result<Graph, Failure<GraphFault>>
     ensures { Gives result
         (unless (spec.graph_faults meta.now objects.now) (meaning.graph_of meta.now objects.now)) }
@@ -37,7 +36,7 @@ pub fn build(
     build_named(alloc, meta, &named, objects)
 }
 
-fn objects_few(objects: &[RawObject]) -> Result<(), GraphFault>
+fn objects_few(objects: &[RawObject<'_>]) -> Result<(), GraphFault>
     ensures answers { result ≡ verdict (spec.many_objects objects.now) }
     ensures few { OnOk result (length objects.now ≤ MAX_OBJECTS) }
 {
@@ -52,11 +51,11 @@ fn objects_few(objects: &[RawObject]) -> Result<(), GraphFault>
 fn build_named(
     alloc: Global,
     meta: &Meta,
-    named: &Named,
-    objects: &[RawObject],
+    named: &Named<'_>,
+    objects: &[RawObject<'_>],
 ) -> Result<Graph, Failure<GraphFault>>
     requires few { length objects.now ≤ MAX_OBJECTS }
-    requires numbered { (name : List ℕ) → get_by_text named.now.numbers name
+    requires numbered { (name : List ℕ) → lookups.number_named named.now.numbers name
         ≡ lookups.place_of (lookups.object_names objects.now) name }
     requires next { named.now.next_name
         ≡ meaning.next_name_after (lookups.object_names objects.now) }

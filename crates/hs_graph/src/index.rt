@@ -1,19 +1,19 @@
-//! A graph's objects by number, and its edges by their sources or by their targets.
-//!
-//! Where numbers are places, as in a graph that was built, both are looked up by place.
+//! A graph's objects by number, and edges by their sources or by their targets.
 
-ghost use Rattle.std.specs.Prelude.{◌≡◌, ℕ, ◌++◌, ◌∷◌, [], IfOk, OnOk, eqb, if◌then◌else◌, option_map, slice_get, unwrap_or, Some, None};
+ghost use Rattle.std.specs.Prelude.{◌≡◌, ◌≤◌, ℕ, IfOk, OnOk, eqb, if◌then◌else◌, option_map, Some, None};
 ghost use Rattle.std.specs.Option.{option_or};
-ghost use Rattle.std.specs.List.{filter};
-ghost use Rattle.std.specs.Ordering.{nat_cmp};
-ghost use Rattle.std.specs.BTreeMap.{get};
+ghost use Rattle.std.specs.List.{All, filter};
+ghost use Rattle.std.specs.List.Sorted.{IsNonDecreasingBy};
 ghost use Rattle.hs_types.specs.TypedGraph.{object_at};
+ghost use Rattle.hs_graph.specs.Ends.{end_number};
 ghost use Rattle.hs_graph.specs.Index.{indexed_edges, indexed_name, indexed_object};
-ghost use Rattle.hs_graph.specs.Problems.{edges_leaving, edges_entering};
+ghost use Rattle.hs_graph.specs.Problems.{edges_leaving};
 
+use hs_expr::List;
 use hs_types::{Edge, Graph, Object, ObjectNo};
 use std::alloc::{AllocError, Global};
 use std::collections::BTreeMap;
+use std::marker::Model;
 
 /// The objects of a graph by their numbers.
 #[derive(Drop)]
@@ -23,13 +23,29 @@ pub struct ObjectIndex<'a> {
     far: BTreeMap<ObjectNo, &'a Object>,
 }
 
-/// The edges of each object, those that leave it or those that lead to it, in the order of their
-/// numbers.
+/// An end of an edge.
+#[derive(Clone, Copy, PartialEq, Eq, Debug)]
+pub enum End {
+    Source,
+    Target,
+}
+
+/// Edges in the order of the numbers of an end; those of one number as they were before.
 #[derive(Drop)]
 pub struct EdgeIndex {
-    /// By place those of objects whose numbers are below the number of objects.
-    near: Vec<Vec<Edge>>,
-    far: BTreeMap<usize, Vec<Edge>>,
+    by: End,
+    edges: Vec<Edge>,
+}
+
+impl Model for EdgeIndex {
+    ghost use Rattle.std.specs.List.Sorted.{IsNonDecreasingBy};
+    ghost use Rattle.hs_graph.specs.Ends.{EdgesBy, end_number};
+
+    ghost Value = { EdgesBy };
+
+    ghost view = { λ index. record { by = index.by; edges = index.edges.items } };
+
+    ghost invariant = { λ index. IsNonDecreasingBy (end_number index.by) index.edges.items };
 }
 
 /// The objects of the graph by their numbers: of one number the first.
@@ -92,96 +108,52 @@ pub fn object_of<'a>(objects: &ObjectIndex<'a>, number: ObjectNo) -> Option<&'a 
     }
 }
 
-/// The edges that leave each object.
+/// The edges by the objects that they leave.
 pub fn outgoing_of(alloc: Global, graph: &Graph) -> Result<EdgeIndex, AllocError>
     ensures { IfOk result (λ edges. (n : ℕ) → indexed_edges edges n ≡ edges_leaving graph.now n) }
 {
-    let mut outgoing = no_edges(alloc, graph.objects.len())?;
-    for edge in graph.edges.as_slice() {
-        add_edge(alloc, &mut outgoing, edge.source as usize, *edge)?;
-    }
-    Ok(outgoing)
+    index_by(End::Source, graph.edges.clone()?)
 }
 
-/// The edges that lead to each object.
-pub fn incoming_of(alloc: Global, graph: &Graph) -> Result<EdgeIndex, AllocError>
-    ensures { IfOk result (λ edges. (n : ℕ) → indexed_edges edges n ≡ edges_entering graph.now n) }
-{
-    let mut incoming = no_edges(alloc, graph.objects.len())?;
-    for edge in graph.edges.as_slice() {
-        add_edge(alloc, &mut incoming, edge.target as usize, *edge)?;
-    }
-    Ok(incoming)
-}
-
-fn no_edges(alloc: Global, places: usize) -> Result<EdgeIndex, AllocError>
-    ensures { IfOk result (λ edges. (n : ℕ) → indexed_edges edges n ≡ []) }
-{
-    Ok(EdgeIndex {
-        near: no_rows(alloc, places)?,
-        far: BTreeMap::new(alloc),
-    })
-}
-
-fn no_rows(alloc: Global, places: usize) -> Result<Vec<Vec<Edge>>, AllocError>
+/// The edges by that end.
+pub fn index_by(by: End, edges: List<Edge>) -> Result<EdgeIndex, AllocError>
     ensures { IfOk result
-        (λ near. (n : ℕ) → unwrap_or (option_map (λ v. v.items) (slice_get near.items n)) [] ≡ []) }
+        (λ index. (n : ℕ) → indexed_edges index n ≡ filter (λ e. eqb (end_number by e) n) edges) }
 {
-    let mut near = Vec::new(alloc);
-    for _place in 0..places {
-        near.push(Vec::new(alloc))?;
-    }
-    Ok(near)
+    let mut edges = edges.into_vec();
+    edges.sort_by_key(
+        |edge: &Edge| -> ObjectNo
+            ensures { result ≡ end_number by edge.now }
+        { end_number(by, edge) },
+    )?;
+    Ok(EdgeIndex { by, edges })
 }
 
-/// Adds an edge of the object of this number.
-fn add_edge(
-    alloc: Global,
-    edges: &mut EdgeIndex,
-    object: usize,
-    edge: Edge,
-) -> Result<(), AllocError>
-    ensures { OnOk result ((n : ℕ) → indexed_edges edges.new n
-        ≡ indexed_edges edges.old n ++ (if eqb object n then edge ∷ [] else [])) }
+fn end_number(by: End, edge: &Edge) -> ObjectNo
+    ensures { result ≡ end_number by edge.now }
 {
-    if object < edges.near.len() {
-        edges.near[object].push(edge)?;
-        return Ok(());
+    match by {
+        End::Source => edge.source,
+        End::Target => edge.target,
     }
-    add_far(alloc, &mut edges.far, object, edge)?;
-    Ok(())
 }
 
-fn add_far(
-    alloc: Global,
-    far: &mut BTreeMap<usize, Vec<Edge>>,
-    object: usize,
-    edge: Edge,
-) -> Result<(), AllocError>
-    ensures { OnOk result
-        ((n : ℕ) → unwrap_or (option_map (λ v. v.items) (get nat_cmp far.new n)) []
-        ≡ unwrap_or (option_map (λ v. v.items) (get nat_cmp far.old n)) []
-        ++ (if eqb object n then edge ∷ [] else [])) }
+/// The edges that have the object of this number at that end.
+pub fn edges_of(index: &EdgeIndex, number: ObjectNo) -> &[Edge]
+    ensures { result.now ≡ indexed_edges index.now number }
 {
-    if let Some(edges) = far.get_mut(&object) {
-        edges.push(edge)?;
-        return Ok(());
-    }
-    let mut edges = Vec::new(alloc);
-    edges.push(edge)?;
-    far.insert(object, edges)?;
-    Ok(())
+    let by = index.by;
+    let edges = edges_from(by, index.edges.as_slice(), number);
+    &edges[..edges.partition_point(|edge| end_number(by, edge) <= number)]
 }
 
-/// The edges of the object of this number.
-pub fn edges_of(edges: &EdgeIndex, object: usize) -> &[Edge]
-    ensures { result.now ≡ indexed_edges edges.now object }
+/// The edges that have this number or a greater one at that end.
+fn edges_from(by: End, edges: &[Edge], number: ObjectNo) -> &[Edge]
+    requires { IsNonDecreasingBy (end_number by) edges.now }
+    ensures rising { IsNonDecreasingBy (end_number by) result.now }
+    ensures same { filter (λ e. eqb (end_number by e) number) result.now
+        ≡ filter (λ e. eqb (end_number by e) number) edges.now }
+    ensures from { All (λ e. number ≤ end_number by e) result.now }
 {
-    if let Some(found) = edges.near.get(object) {
-        return found.as_slice();
-    }
-    match edges.far.get(&object) {
-        Some(found) => found.as_slice(),
-        None => &[],
-    }
+    &edges[edges.partition_point(|edge| end_number(by, edge) < number)..]
 }

@@ -3,6 +3,7 @@
 #![tactic(auto)]
 
 mod attrs;
+mod borrowed;
 mod classes;
 mod containment;
 mod edges;
@@ -21,11 +22,10 @@ mod refs;
 mod validation;
 mod values;
 
+pub use borrowed::{Scalar, TextRef, ValueRef};
 pub use fault::{GraphFault, GraphFaultKind, GraphPlace};
 pub use graph::build;
-pub use index::{
-    EdgeIndex, ObjectIndex, edges_of, incoming_of, name_of, object_of, objects_of, outgoing_of,
-};
+pub use index::{EdgeIndex, ObjectIndex, edges_of, name_of, object_of, objects_of, outgoing_of};
 pub use problem::{Problem, ProblemKind};
 pub use raw::{RawAttr, RawObject, RawRef, RawValue};
 pub use validation::problems;

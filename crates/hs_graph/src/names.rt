@@ -5,19 +5,18 @@ ghost use Rattle.std.specs.List.{list_all};
 ghost use Rattle.std.specs.Option.{option_map};
 ghost use Rattle.hs_graph.specs.Names as spec;
 
-use hs_expr::Text;
 use hs_types::limits::{MAX_NAME_BYTES, MAX_NAME_NUMBER};
 
 /// One above the number k of a name `#k`, 0 of another name, and none of a text that can't name an
 /// object.
-pub fn next_after(name: &Text) -> Option<u64>
+pub fn next_after(name: &str) -> Option<u64>
     ensures { result ≡ (if spec.is_object_name name.now then Some (spec.next_after name.now)
         else None) }
 {
     if name.is_empty() || name.len() > MAX_NAME_BYTES {
         return None;
     }
-    match hash_number(name.as_str()) {
+    match hash_number(name) {
         None => Some(0),
         Some(number) if number <= MAX_NAME_NUMBER => Some(number + 1),
         Some(_) => None,

@@ -16,13 +16,13 @@ pub fn numbered_objects(
     alloc: Global,
     meta: &Meta,
     classes: &[ClassNo],
-    objects: &[RawObject],
+    objects: &[RawObject<'_>],
 ) -> Result<List<Object>, AllocError>
     requires few { length objects.now ≤ MAX_OBJECTS }
     requires resolved { classes.now ≡ classes_of_objects meta.now objects.now }
     ensures { IfOk result (λ made. made ≡ spec.objects_from meta.now 0 objects.now) }
 {
-    let mut made = List::new(alloc);
+    let mut made = List::from_vec(Vec::with_capacity(alloc, objects.len())?);
     for (i, object) in objects.iter().enumerate() {
         made.push(object_of(alloc, meta, classes[i], i as u32, object)?)?;
     }
@@ -35,7 +35,7 @@ fn object_of(
     meta: &Meta,
     class: ClassNo,
     number: ObjectNo,
-    object: &RawObject,
+    object: &RawObject<'_>,
 ) -> Result<Object, AllocError>
     ensures { IfOk result
         (λ made. made ≡ record {
@@ -47,7 +47,7 @@ fn object_of(
 {
     Ok(Object {
         number,
-        name: object.name.clone()?,
+        name: object.name.to_text(alloc)?,
         class,
         slots: slots_for(alloc, meta, class, object.attrs.as_slice())?,
     })

@@ -1,16 +1,16 @@
 //! References as they are written: whether they and their targets are there and fit.
 
 ghost use Rattle.std.specs.Prelude.{◌≡◌, ◌<◌, ℕ, List, Some, length, slice_get};
-ghost use Rattle.std.specs.HashMap.{get_by_text};
 ghost use Rattle.hs_expr.specs.Verdict.{verdict, each};
 ghost use Rattle.hs_graph.specs.Faults as spec;
-ghost use Rattle.hs_graph.specs.Lookups.{class_of_object, classes_of_objects, object_names, place_of};
+ghost use Rattle.hs_graph.specs.Lookups.{class_of_object, classes_of_objects, number_named, object_names, place_of};
 
+use crate::borrowed::TextRef;
 use crate::fault::{GraphFault, GraphFaultKind, GraphPlace, fault};
 use crate::lookups::{both_conform, reference_named};
 use crate::numbers::Numbers;
 use crate::raw::{RawObject, RawRef};
-use hs_expr::{Text, check_each, fault_if};
+use hs_expr::{check_each, fault_if};
 use hs_types::{ClassNo, FeatureNo, Meta, ObjectNo};
 
 /// The first reference that the object's class doesn't have, target that isn't there, or target of
@@ -18,31 +18,31 @@ use hs_types::{ClassNo, FeatureNo, Meta, ObjectNo};
 #[tactic(auto, using(crate::proofs::Lists::class_stands))]
 pub fn refs_right(
     meta: &Meta,
-    numbers: &Numbers,
+    numbers: &Numbers<'_>,
     classes: &[ClassNo],
-    objects: &[RawObject],
+    objects: &[RawObject<'_>],
 ) -> Result<(), GraphFault>
     requires resolved { classes.now ≡ classes_of_objects meta.now objects.now }
     requires numbered { (name : List ℕ)
-        → get_by_text numbers.now name ≡ place_of (object_names objects.now) name }
+        → number_named numbers.now name ≡ place_of (object_names objects.now) name }
     ensures { result ≡ verdict (spec.ref_faults meta.now objects.now) }
 {
     check_each(
         objects,
-        &|i: usize, object: &RawObject| refs_right_at(meta, numbers, classes, i, object),
+        &|i: usize, object: &RawObject<'_>| refs_right_at(meta, numbers, classes, i, object),
     )
 }
 
 fn refs_right_at(
     meta: &Meta,
-    numbers: &Numbers,
+    numbers: &Numbers<'_>,
     classes: &[ClassNo],
     i: usize,
-    object: &RawObject,
+    object: &RawObject<'_>,
 ) -> Result<(), GraphFault>
     requires { i < length classes.now }
     ensures { (objects : List RawObject) → classes.now ≡ classes_of_objects meta.now objects
-        → ((name : List ℕ) → get_by_text numbers.now name ≡ place_of (object_names objects) name)
+        → ((name : List ℕ) → number_named numbers.now name ≡ place_of (object_names objects) name)
         → slice_get objects i ≡ Some object.now
         → result ≡ verdict (each (spec.ref_faults_at meta.now (object_names objects)
         (classes_of_objects meta.now objects) (class_of_object meta.now object.now) i)
@@ -60,36 +60,36 @@ fn refs_right_at(
 
 fn refs_right_in(
     meta: &Meta,
-    numbers: &Numbers,
+    numbers: &Numbers<'_>,
     classes: &[ClassNo],
     class: ClassNo,
     i: usize,
-    refs: &[RawRef],
+    refs: &[RawRef<'_>],
 ) -> Result<(), GraphFault>
     ensures { (names : List (List ℕ))
-        → ((name : List ℕ) → get_by_text numbers.now name ≡ place_of names name)
+        → ((name : List ℕ) → number_named numbers.now name ≡ place_of names name)
         → result ≡ verdict (each (spec.ref_faults_at meta.now names classes.now class i) refs.now) }
 {
     check_each(
         refs,
-        &|r: usize, written: &RawRef| ref_right(meta, numbers, classes, class, i, r, written),
+        &|r: usize, written: &RawRef<'_>| ref_right(meta, numbers, classes, class, i, r, written),
     )
 }
 
 fn ref_right(
     meta: &Meta,
-    numbers: &Numbers,
+    numbers: &Numbers<'_>,
     classes: &[ClassNo],
     class: ClassNo,
     i: usize,
     r: usize,
-    written: &RawRef,
+    written: &RawRef<'_>,
 ) -> Result<(), GraphFault>
     ensures { (names : List (List ℕ))
-        → ((name : List ℕ) → get_by_text numbers.now name ≡ place_of names name)
+        → ((name : List ℕ) → number_named numbers.now name ≡ place_of names name)
         → result ≡ verdict (spec.ref_faults_at meta.now names classes.now class i r written.now) }
 {
-    match reference_named(meta, class, &written.name) {
+    match reference_named(meta, class, written.name.as_str()) {
         Some(reference) => targets_right(
             meta,
             numbers,
@@ -111,21 +111,21 @@ fn ref_right(
 
 fn targets_right(
     meta: &Meta,
-    numbers: &Numbers,
+    numbers: &Numbers<'_>,
     classes: &[ClassNo],
     reference: FeatureNo,
     i: usize,
     r: usize,
-    targets: &[Text],
+    targets: &[TextRef<'_>],
 ) -> Result<(), GraphFault>
     ensures { (names : List (List ℕ))
-        → ((name : List ℕ) → get_by_text numbers.now name ≡ place_of names name)
+        → ((name : List ℕ) → number_named numbers.now name ≡ place_of names name)
         → result ≡ verdict (each (spec.target_faults_at meta.now names classes.now reference i r)
         targets.now) }
 {
     check_each(
         targets,
-        &|t: usize, name: &Text| {
+        &|t: usize, name: &TextRef<'_>| {
             let place = GraphPlace::Target {
                 object: i,
                 number: r,
@@ -138,14 +138,14 @@ fn targets_right(
 
 fn target_right(
     meta: &Meta,
-    numbers: &Numbers,
+    numbers: &Numbers<'_>,
     classes: &[ClassNo],
     reference: FeatureNo,
     place: GraphPlace,
-    name: &Text,
+    name: &TextRef<'_>,
 ) -> Result<(), GraphFault>
     ensures { (names : List (List ℕ))
-        → ((name : List ℕ) → get_by_text numbers.now name ≡ place_of names name)
+        → ((name : List ℕ) → number_named numbers.now name ≡ place_of names name)
         → result ≡ verdict (spec.reach_faults meta.now classes.now reference place
         (place_of names name.now)) }
 {

@@ -9,8 +9,8 @@ ghost use Rattle.hs_types.specs.TypedGraph.{IsTyped};
 ghost use Rattle.hs_graph.specs.Index.{indexed_edges};
 ghost use Rattle.hs_graph.specs.Problems as spec;
 
-use crate::containment::{cycles_of, is_containment};
-use crate::index::{EdgeIndex, edges_of, incoming_of, outgoing_of};
+use crate::containment::{containing_of, cycles_of};
+use crate::index::{EdgeIndex, edges_of, outgoing_of};
 use crate::problem::{Problem, ProblemKind};
 use hs_expr::List;
 use hs_types::{Edge, FeatureKind, FeatureNo, Graph, Meta, Object, ObjectNo};
@@ -22,16 +22,18 @@ pub fn problems(alloc: Global, meta: &Meta, graph: &Graph) -> Result<List<Proble
     ensures { IfOk result (λ problems. problems ≡ spec.problems_of meta.now graph.now) }
 {
     let outgoing = outgoing_of(alloc, graph)?;
-    let incoming = incoming_of(alloc, graph)?;
+    let containing = containing_of(alloc, meta, graph)?;
     let cycles = cycles_of(alloc, meta, graph, &outgoing)?;
     let mut problems = List::new(alloc);
-    for object in graph.objects.as_slice() {
+    let objects = graph.objects.as_slice();
+    for (i, object) in objects.iter().enumerate() {
+        let is_in_itself = is_marked(cycles.as_slice(), i);
         add_problems_at(
             meta,
             graph,
             &outgoing,
-            &incoming,
-            cycles.as_slice(),
+            &containing,
+            is_in_itself,
             object,
             &mut problems,
         )?;
@@ -39,28 +41,28 @@ pub fn problems(alloc: Global, meta: &Meta, graph: &Graph) -> Result<List<Proble
     Ok(problems)
 }
 
-/// Adds the problems of an object.
+/// Adds the problems of an object, which contains itself or doesn't.
 fn add_problems_at(
     meta: &Meta,
     graph: &Graph,
     outgoing: &EdgeIndex,
-    incoming: &EdgeIndex,
-    cycles: &[bool],
+    containing: &EdgeIndex,
+    is_in_itself: bool,
     object: &Object,
     problems: &mut List<Problem>,
 ) -> Result<(), AllocError>
     requires leave { (n : ℕ) → indexed_edges outgoing.now n ≡ spec.edges_leaving graph.now n }
-    requires arrive { (n : ℕ) → indexed_edges incoming.now n ≡ spec.edges_entering graph.now n }
-    requires marked { (n : ℕ) → get_or cycles.now n false ≡ spec.is_in_itself meta.now graph.now n }
+    requires contain { (n : ℕ) → indexed_edges containing.now n
+        ≡ filter (λ e. spec.is_containment meta.now e.reference) (spec.edges_entering graph.now n) }
+    requires marked { is_in_itself ≡ spec.is_in_itself meta.now graph.now object.now.number }
     ensures { OnOk result
         (problems.new ≡ problems.old ++ spec.problems_at meta.now graph.now object.now) }
 {
-    let number = object.number as usize;
     add_problems(
         meta,
-        edges_of(outgoing, number),
-        edges_of(incoming, number),
-        is_marked(cycles, number),
+        edges_of(outgoing, object.number),
+        edges_of(containing, object.number).len(),
+        is_in_itself,
         object,
         problems,
     )
@@ -75,17 +77,18 @@ fn is_marked(marks: &[bool], place: usize) -> bool
     }
 }
 
-/// Adds the problems of an object with these edges, which contains itself or doesn't.
+/// Adds the problems of an object that these edges leave, and that has this number of
+/// containers.
 fn add_problems(
     meta: &Meta,
     outgoing: &[Edge],
-    incoming: &[Edge],
+    containers: usize,
     is_in_itself: bool,
     object: &Object,
     problems: &mut List<Problem>,
 ) -> Result<(), AllocError>
     ensures { OnOk result (problems.new ≡ problems.old
-        ++ spec.problems_by meta.now outgoing.now incoming.now is_in_itself object.now) }
+        ++ spec.problems_by meta.now outgoing.now containers is_in_itself object.now) }
 {
     add_feature_problems(
         meta,
@@ -96,7 +99,7 @@ fn add_problems(
     )?;
     let object = object.number;
     add_if(
-        containers_count(meta, incoming) > 1,
+        containers > 1,
         Problem {
             object,
             kind: ProblemKind::Containers,
@@ -195,15 +198,5 @@ fn targets_count(edges: &[Edge], reference: FeatureNo) -> u64
     edges
         .iter()
         .filter(|edge| edge.reference == reference)
-        .count() as u64
-}
-
-fn containers_count(meta: &Meta, edges: &[Edge]) -> u64
-    ensures { result ≡ length
-        (filter (λ edge. spec.is_containment meta.now edge.reference) edges.now) }
-{
-    edges
-        .iter()
-        .filter(|edge| is_containment(meta, edge.reference))
         .count() as u64
 }

@@ -1,39 +1,29 @@
 //! Values that are written for attributes.
 
-ghost use Rattle.std.specs.Prelude.{◌≡◌, ◌&&◌, pos};
+ghost use Rattle.std.specs.Prelude.{◌≡◌};
 ghost use Rattle.hs_types.specs.Metamodel as metamodel;
 ghost use Rattle.hs_graph.specs.Faults as spec;
 
+use crate::borrowed::ValueRef;
 use crate::raw::RawValue;
-use hs_expr::Value;
-use hs_types::limits::MAX_TEXT_BYTES;
 use hs_types::{FeatureNo, Meta};
 
 /// Whether the attribute takes what is written: a value of its type, and a short one.
-pub fn takes(meta: &Meta, attribute: FeatureNo, written: &RawValue) -> bool
+pub fn takes(meta: &Meta, attribute: FeatureNo, written: &RawValue<'_>) -> bool
     ensures { result ≡ spec.takes meta.now attribute written.now }
 {
     match written {
-        RawValue::Given(value) => fits(meta, attribute, value) && is_short(value),
+        RawValue::Given(value) => fits(meta, attribute, value) && value.is_short(),
         RawValue::NoValue => false,
     }
 }
 
-fn is_short(value: &Value) -> bool
-    ensures { result ≡ spec.is_short value.now }
-{
-    match value {
-        Value::Text(text) => text.len() <= MAX_TEXT_BYTES,
-        Value::Int(_) | Value::Bool(_) => true,
-    }
-}
-
 /// Whether the feature is an attribute, and the value of its type.
-fn fits(meta: &Meta, feature: FeatureNo, value: &Value) -> bool
+fn fits(meta: &Meta, feature: FeatureNo, value: &ValueRef<'_>) -> bool
     ensures { result ≡ metamodel.fits meta.now feature value.now }
 {
     match meta.type_of(feature) {
-        Some(data_type) => data_type.has(value),
+        Some(data_type) => value.is_of_type(data_type),
         None => false,
     }
 }

@@ -20,7 +20,7 @@ use Rattle.hs_input.specs.Input.{IsBuilt, IsRead, asked}
 use Rattle.hs_input.specs.Refusing.{Refuses}
 use Rattle.hs_input.specs.Sessions.{sessions_asked}
 
--- ---- what bytes come to
+-- ---- what bytes hold
 
 same_data : {d e : Data} (o : Option Data) → o ≡ Some d → o ≡ Some e → d ≡ e
 same_data None a b = absurd (cc)

@@ -92,13 +92,13 @@ pub record IsJson (bytes : List ℕ) (d : Data) : Type 0 where
 abbrev pub IsNoJson : List ℕ → Type 0
 IsNoJson bytes = IsUtf8 bytes → read bytes ≡ None
 
--- What the bytes come to: bad JSON, or what their value holds or its first fault.
+-- What the bytes hold: bad JSON, or the contents of their value or its first fault.
 abbrev pub IsBundleAnswer : List ℕ → Result Contents BundleFault → Type 0
 IsBundleAnswer bytes answer =
     (IsNoJson bytes × (answer ≡ Err BadJson))
     ⊎ ((d : Data) × IsJson bytes d × (contents_of d ≡ answer))
 
--- The answer is what the bytes come to; only out of memory may come in its place.
+-- The answer is what the bytes hold; only out of memory may take its place.
 abbrev pub Answers : List ℕ → Result Bundle (Failure BundleFault) → Type 0
 Answers bytes (Ok bundle) = IsBundleAnswer bytes (Ok (contents bundle))
 Answers bytes (Err (Fault fault)) = IsBundleAnswer bytes (Err fault)

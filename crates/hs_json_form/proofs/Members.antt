@@ -1,16 +1,13 @@
 -- Lists and objects of JSON, as values are seen.
-use Rattle.std.proofs.Common.{◌≡◌, ◌||◌, ◌+◌, ◌++◌, ℕ, List, [], ◌∷◌, Bool, true, false, map, find, Some, Ok, Err, cond, string_bytes, String, Global, refl, ap, sym, append_assoc}
+use Rattle.std.proofs.Common.{◌≡◌, ◌||◌, ◌++◌, ℕ, List, [], ◌∷◌, Bool, true, false, map, find, Some, Ok, Err, cond, string_bytes, String, Global, refl, ap, sym, append_assoc}
 use Rattle.std.specs.List.{list_any}
 use Rattle.std.specs.Option.{option_map}
 use Rattle.serde_json.specs.View.{members_view, items_view, view}
 use Rattle.serde_json.specs.declared.value.Value.{Value}
 use Rattle.serde_json.specs.Data.{Data}
-use Rattle.hs_expr.specs.declared.failure.Failure.{Failure}
-use Rattle.hs_expr.specs.declared.failure.Failure.TheVariants.{Fault, NoMemory}
-use Rattle.hs_expr.specs.Steps.{◌>>=◌, Fails}
-use Rattle.hs_json_form.specs.declared.path.Step.{Step}
-use Rattle.hs_json_form.specs.declared.path.Step.TheVariants.{Key, Place}
-use Rattle.hs_json_form.specs.Form.{Read, each_item, each_member, entries, items, at_step}
+use Rattle.hs_expr.specs.Steps.{◌>>=◌}
+use Rattle.hs_json_form.specs.declared.path.Step.TheVariants.{Key}
+use Rattle.hs_json_form.specs.Form.{Read, each_member, entries, items, at_step}
 
 pub items_of_views : (vs : List Value) → items (items_view vs) ≡ map view vs
 items_of_views [] = refl

@@ -18,9 +18,9 @@ use std::alloc::{AllocError, Global};
 
 /// The list that the value is, each item read in turn.
 #[tactic(auto, using(crate::proofs::Members::items_of_views))]
-pub fn list_of<T: Drop, F: Fn(&Value) -> Result<T, Failure<Path>>>(
+pub fn list_of<'a, T: Drop, F: Fn(&'a Value) -> Result<T, Failure<Path>>>(
     alloc: Global,
-    value: &Value,
+    value: &'a Value,
     read: &F,
 ) -> Result<List<T>, Failure<Path>>
     requires { F.IsAlwaysCallable read.now }
@@ -35,9 +35,9 @@ pub fn list_of<T: Drop, F: Fn(&Value) -> Result<T, Failure<Path>>>(
 }
 
 /// Reads each value in turn.
-fn read_each<T: Drop, F: Fn(&Value) -> Result<T, Failure<Path>>>(
+fn read_each<'a, T: Drop, F: Fn(&'a Value) -> Result<T, Failure<Path>>>(
     alloc: Global,
-    values: &[Value],
+    values: &'a [Value],
     read: &F,
 ) -> Result<List<T>, Failure<Path>>
     requires { F.IsAlwaysCallable read.now }
@@ -45,7 +45,7 @@ fn read_each<T: Drop, F: Fn(&Value) -> Result<T, Failure<Path>>>(
         → ((v : _) (r : _) → F.post read.now v r → Gives r (reads (view v.now)))
         → Gives result (spec.each_item reads 0 (map view values.now)) }
 {
-    let mut items = List::new(alloc);
+    let mut items = List::from_vec(Vec::with_capacity(alloc, values.len())?);
     for (i, value) in values.iter().enumerate() {
         match at_index(i, read(value)) {
             Ok(item) => items.push(item)?,
@@ -68,9 +68,9 @@ fn at_index<T: Drop>(i: usize, read: Result<T, Failure<Path>>) -> Result<T, Fail
 }
 
 /// The list at a key, each item read in turn; empty where the key is left out.
-pub fn list_at<T: Drop, F: Fn(&Value) -> Result<T, Failure<Path>>>(
+pub fn list_at<'a, T: Drop, F: Fn(&'a Value) -> Result<T, Failure<Path>>>(
     alloc: Global,
-    value: &Value,
+    value: &'a Value,
     key: &str,
     read: &F,
 ) -> Result<List<T>, Failure<Path>>
@@ -86,9 +86,9 @@ pub fn list_at<T: Drop, F: Fn(&Value) -> Result<T, Failure<Path>>>(
 }
 
 /// What is read of each member of the object that the value is, by the order of their keys.
-pub fn members_of<T: Drop, F: Fn(&str, &Value) -> Result<T, Failure<Path>>>(
+pub fn members_of<'a, T: Drop, F: Fn(&'a str, &'a Value) -> Result<T, Failure<Path>>>(
     alloc: Global,
-    value: &Value,
+    value: &'a Value,
     read: &F,
 ) -> Result<List<T>, Failure<Path>>
     requires { F.IsAlwaysCallable read.now }
@@ -102,9 +102,9 @@ pub fn members_of<T: Drop, F: Fn(&str, &Value) -> Result<T, Failure<Path>>>(
     }
 }
 
-fn each_member<T: Drop, F: Fn(&str, &Value) -> Result<T, Failure<Path>>>(
+fn each_member<'a, T: Drop, F: Fn(&'a str, &'a Value) -> Result<T, Failure<Path>>>(
     alloc: Global,
-    members: &Map<String, Value>,
+    members: &'a Map<String, Value>,
     read: &F,
 ) -> Result<List<T>, Failure<Path>>
     requires { F.IsAlwaysCallable read.now }
@@ -112,7 +112,7 @@ fn each_member<T: Drop, F: Fn(&str, &Value) -> Result<T, Failure<Path>>>(
         → ((k : _) (v : _) (r : _) → F.post read.now k v r → Gives r (reads k.now (view v.now)))
         → Gives result (spec.each_member reads (spec.entries (members_view members.now.entries))) }
 {
-    let mut items = List::new(alloc);
+    let mut items = List::from_vec(Vec::with_capacity(alloc, members.len())?);
     for (key, value) in members.iter() {
         match at_key(alloc, key.as_str(), read(key.as_str(), value)) {
             Ok(item) => items.push(item)?,
@@ -123,9 +123,9 @@ fn each_member<T: Drop, F: Fn(&str, &Value) -> Result<T, Failure<Path>>>(
 }
 
 /// What is read of the members of the object at a key; nothing where the key is left out.
-pub fn members_at<T: Drop, F: Fn(&str, &Value) -> Result<T, Failure<Path>>>(
+pub fn members_at<'a, T: Drop, F: Fn(&'a str, &'a Value) -> Result<T, Failure<Path>>>(
     alloc: Global,
-    value: &Value,
+    value: &'a Value,
     key: &str,
     read: &F,
 ) -> Result<List<T>, Failure<Path>>

@@ -1,10 +1,8 @@
 -- What is found among some of a list's numbers.
-use Rattle.std.proofs.Common.{ℕ, ◌≡◌, ◌⊎◌, inl, inr, List, [], ◌∷◌, Bool, true, false, cond, map, eqb, Option, Some, None, refl, ap, sym, ◌∙◌}
-use Rattle.std.proofs.lemmas.Bool.{eq-eqb, false≢true, or_left}
+use Rattle.std.proofs.Common.{ℕ, ◌≡◌, List, [], ◌∷◌, Bool, true, false, cond, map, Option, Some, refl, ap, sym, ◌∙◌}
 use Rattle.std.proofs.lemmas.List.Elements.{All-nil, All-cons, All-head, All-tail}
-use Rattle.std.specs.List.{All, filter, find}
-use Rattle.hs_expr.specs.Lists.{Differ, has}
-use Rattle.hs_expr.proofs.Lists.{has-later, has_cases}
+use Rattle.std.specs.List.{All, filter}
+use Rattle.hs_expr.specs.Lists.{Differ}
 
 apart_used : {A : Type 0} (h : ℕ → Option A) (key : ℕ → A) (q : ℕ → Bool) (n : ℕ) (ns : List ℕ) → ((k : ℕ) → q k ≡ true → h k ≡ Some (key k)) → q n ≡ true →
     All (λ o. h n ≡ o → ⊥) (map h ns) → All (λ l. key n ≡ l → ⊥) (map key (filter q ns))

@@ -96,7 +96,7 @@ none_listed : (name : List ℕ) (targets : List (List ℕ)) (ms : List Member) �
 none_listed name [] ms e = refl
 none_listed name (t ∷ ts) ms e = absurd (false≢true (sym e))
 
-references_listed : (m : Metamodel) (targets : ℕ → List (List ℕ)) (fs : List ℕ) →
+pub references_listed : (m : Metamodel) (targets : ℕ → List (List ℕ)) (fs : List ℕ) →
     flat_map (λ f. reference_member (feature_name m f) (targets f)) fs ≡ map (λ f. (feature_name m f, list_data string (targets f))) (filter (λ f. is_used (targets f)) fs)
 references_listed m targets [] = refl
 references_listed m targets (f ∷ fs) = go (is_used (targets f)) refl (references_listed m targets fs)

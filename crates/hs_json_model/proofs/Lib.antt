@@ -16,3 +16,5 @@ pub mod NoFaults
 pub mod GraphBack
 pub mod Grouped
 pub mod Opened
+pub mod Readable
+pub mod TextBack

@@ -1,6 +1,5 @@
-use Rattle.std.proofs.Common.{ℕ, ◌+◌, ◌<◌, ◌≤◌, ◌≡◌, ◌++◌, List, [], ◌∷◌, None, Some, map, drop, length, get_or, arith, refl, Option, Bor, append_assoc}
+use Rattle.std.proofs.Common.{ℕ, ◌≤◌, ◌≡◌, ◌++◌, List, [], None, Some, map, drop, length, arith, refl, Option, Bor}
 use Rattle.std.proofs.lemmas.Grind.{common_steps}
-use Rattle.std.proofs.lemmas.List.{drop_more, map-append}
 use Rattle.std.specs.Option.{option_map, unwrap_or}
 use Rattle.hs_types.specs.declared.graph.Object.{Object}
 

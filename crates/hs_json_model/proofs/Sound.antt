@@ -1,5 +1,5 @@
 -- What is read of a model is sound, by the laws of its parts.
-use Rattle.std.proofs.Common.{ℕ, ◌≡◌, ◌≤◌, ◌+◌, List, [], length, Ok, subst}
+use Rattle.std.proofs.Common.{◌≡◌, List, [], Ok, subst}
 use Rattle.serde_json.specs.Data.{Data}
 use Rattle.hs_expr.specs.Steps.{fault_as}
 use Rattle.hs_expr.proofs.Chains.{both_give, none-from_wide}
@@ -13,13 +13,8 @@ use Rattle.hs_json_model.specs.Graph.{graph_at, graph_fault_at}
 use Rattle.hs_json_model.specs.GraphForm.{raw_objects}
 use Rattle.hs_json_model.specs.Meta.{form_fault, meta_at, model_fault_at}
 use Rattle.hs_json_model.specs.MetaForm.{raw_meta}
-use Rattle.hs_json_model.specs.Sound.{IsSound}
 use Rattle.hs_types.specs.declared.graph.Graph.{Graph}
-use Rattle.hs_types.specs.declared.limits.TheConstants.{MAX_EDGES, MAX_NAME_NUMBER, MAX_OBJECTS}
 use Rattle.hs_types.specs.declared.meta.Metamodel.{Metamodel}
-use Rattle.hs_types.specs.Limits.{IsSmallMeta}
-use Rattle.hs_types.specs.Metamodel.{IsMeta}
-use Rattle.hs_types.specs.TypedGraph.{IsOpening}
 
 -- A metamodel that is read has what all metamodels of written classes without a fault have.
 pub meta_sound : (P : Metamodel → Type 0) → ((raw : RawMeta) → model_faults raw.classes ≡ [] → P (metamodel_of raw)) → (d : Data) (m : Metamodel) → meta_at d ≡ Ok m → P m

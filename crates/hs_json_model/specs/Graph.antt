@@ -1,5 +1,5 @@
 -- The typed graph that a JSON value is over a metamodel, or its first fault.
-use Rattle.std.specs.Prelude.{ℕ, List, [], ◌∷◌, Result, Ok, Err, codes, slice_get}
+use Rattle.std.specs.Prelude.{ℕ, List, [], ◌∷◌, Result, codes, slice_get}
 use Rattle.std.specs.Option.{option_and_then, option_map, unwrap_or}
 use Rattle.serde_json.specs.Data.{Data}
 use Rattle.hs_expr.specs.Steps.{◌>>=◌, fault_as}

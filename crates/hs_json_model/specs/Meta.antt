@@ -1,5 +1,5 @@
 -- The metamodel that a JSON value is, or its first fault.
-use Rattle.std.specs.Prelude.{ℕ, List, [], ◌∷◌, Result, Ok, Err, codes}
+use Rattle.std.specs.Prelude.{ℕ, List, [], ◌∷◌, Result, codes}
 use Rattle.serde_json.specs.Data.{Data}
 use Rattle.hs_expr.specs.Steps.{◌>>=◌, fault_as}
 use Rattle.hs_json_form.specs.declared.path.Step.{Step}

@@ -1,7 +1,7 @@
 -- What a written graph is read as: the same objects, numbered by place, and the same edges,
 -- numbered anew.
-use Rattle.std.specs.Prelude.{ℕ, ◌+◌, ◌≤◌, ◌≡◌, List, [], ◌∷◌, ◌++◌, length, map, max, eqb, true}
-use Rattle.std.specs.List.{All, filter, flat_map, position}
+use Rattle.std.specs.Prelude.{ℕ, ◌+◌, ◌≤◌, ◌≡◌, List, [], ◌∷◌, ◌++◌, length, map, eqb, true}
+use Rattle.std.specs.List.{All, filter, flat_map}
 use Rattle.std.specs.Option.{unwrap_or}
 use Rattle.hs_types.specs.declared.graph.Edge.{Edge}
 use Rattle.hs_types.specs.declared.graph.Graph.{Graph}
@@ -13,7 +13,7 @@ use Rattle.hs_graph.specs.declared.edges.Link.{Link}
 use Rattle.hs_graph.specs.Faults.{is_short}
 use Rattle.hs_graph.specs.Meaning as meaning
 use Rattle.hs_graph.specs.Names.{is_object_name}
-use Rattle.hs_graph.specs.Problems.{edges_leaving}
+use Rattle.hs_graph.specs.Problems.{edges_leaving, index_of}
 
 -- At most 200,000 objects and 400,000 edges; names that an object can be given, and texts of at
 -- most 65,536 bytes.
@@ -25,7 +25,7 @@ pub record IsWritable (g : Graph) : Type 0 where
 
 -- The place of the object of this number.
 abbrev pub place_in : Graph → ℕ → ℕ
-place_in g n = unwrap_or (position (λ object. eqb object.number n) g.objects) 0
+place_in g n = unwrap_or (index_of g n) 0
 
 -- The edges of a reference among these.
 abbrev pub edges_by : List Edge → ℕ → List Edge

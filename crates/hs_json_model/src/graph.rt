@@ -34,7 +34,7 @@ pub fn read_graph(alloc: Global, meta: &Meta, value: &Value) -> Result<Graph, Gr
 }
 
 /// The graph of what is written.
-fn graph_of(alloc: Global, meta: &Meta, objects: &[RawObject]) -> Result<Graph, GraphFailure>
+fn graph_of(alloc: Global, meta: &Meta, objects: &[RawObject<'_>]) -> Result<Graph, GraphFailure>
     ensures { Gives result (fault_as (spec.graph_fault_at objects.now)
         (unless (graph_faults meta.now objects.now) (graph_of meta.now objects.now))) }
 {
@@ -52,7 +52,11 @@ fn graph_of(alloc: Global, meta: &Meta, objects: &[RawObject]) -> Result<Graph, 
 }
 
 /// The path of a place in a graph.
-fn graph_path(alloc: Global, objects: &[RawObject], place: GraphPlace) -> Result<Path, AllocError>
+fn graph_path(
+    alloc: Global,
+    objects: &[RawObject<'_>],
+    place: GraphPlace,
+) -> Result<Path, AllocError>
     ensures { IfOk result (λ path. path ≡ spec.graph_path objects.now place) }
 {
     match place {
@@ -80,7 +84,7 @@ fn graph_path(alloc: Global, objects: &[RawObject], place: GraphPlace) -> Result
 
 fn in_ref(
     alloc: Global,
-    objects: &[RawObject],
+    objects: &[RawObject<'_>],
     object: usize,
     number: usize,
     inner: Path,
@@ -91,7 +95,7 @@ fn in_ref(
     placed(object, keyed(alloc, "refs", inner)?)
 }
 
-fn attr_name(objects: &[RawObject], object: usize, number: usize) -> &str
+fn attr_name<'a>(objects: &[RawObject<'a>], object: usize, number: usize) -> &'a str
     ensures { result.now ≡ spec.attr_name objects.now object number }
 {
     match objects.get(object) {
@@ -103,7 +107,7 @@ fn attr_name(objects: &[RawObject], object: usize, number: usize) -> &str
     }
 }
 
-fn ref_name(objects: &[RawObject], object: usize, number: usize) -> &str
+fn ref_name<'a>(objects: &[RawObject<'a>], object: usize, number: usize) -> &'a str
     ensures { result.now ≡ spec.ref_name objects.now object number }
 {
     match objects.get(object) {

@@ -103,7 +103,7 @@ fn add_object(
         ≡ out.old.tokens ++ json_tokens (outline (object_line meta.now g object.now))) }
     ensures before { out.new.before ≡ out.old.before }
 {
-    let edges = edges_of(outgoing, object.number as usize);
+    let edges = edges_of(outgoing, object.number);
     add_parts(alloc, out, meta, objects, edges, object)
 }
 

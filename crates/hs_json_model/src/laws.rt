@@ -1,7 +1,10 @@
 //! What is true of the models that JSON values are.
 
-ghost use Rattle.std.specs.Prelude.{◌≡◌, [], Ok};
+ghost use Rattle.std.specs.Prelude.{◌≡◌, [], Ok, Some, codes, option_and_then};
 ghost use Rattle.serde_json.specs.Data.{Data};
+ghost use Rattle.serde_json.specs.Find.{get};
+ghost use Rattle.serde_json.specs.Read.{read};
+ghost use Rattle.serde_json.specs.Written.{compact_text};
 ghost use Rattle.hs_types.specs.declared.graph.Graph.{Graph};
 ghost use Rattle.hs_types.specs.declared.meta.Metamodel.{Metamodel};
 ghost use Rattle.hs_types.specs.Limits.{IsSmallMeta};
@@ -12,7 +15,7 @@ ghost use Rattle.hs_json_model.specs.Graph.{graph_at};
 ghost use Rattle.hs_json_model.specs.Meta.{meta_at};
 ghost use Rattle.hs_json_model.specs.Renumbered.{IsWritable, graph_by_place};
 ghost use Rattle.hs_json_model.specs.Sound.{IsSound};
-ghost use Rattle.hs_json_model.specs.Written.{objects_data};
+ghost use Rattle.hs_json_model.specs.Written.{graph_data, objects_data};
 
 use hs_graph::laws::{graphs_are_opening, graphs_are_small, hash_names_are_numbers};
 use hs_meta::laws::metamodels_are_denoted;
@@ -32,11 +35,15 @@ pub fn models_are_sound()
 }
 
 /// A typed graph that can be written is read back from what it is written as: the same objects and
-/// the same edges, numbered by their places. A graph from which a journal begins is numbered so
-/// already.
+/// the same edges, numbered by their places. The text that [`write_graph`](crate::write_graph)
+/// gives has, at the key `graph`, what it is written as. A graph from which a journal begins is
+/// numbered so already.
 pub fn graphs_are_read_back()
     ensures numbered { (m : Metamodel) (g : Graph) → IsMeta m → IsTyped m g → IsWritable g
         → graph_at m (objects_data m g) ≡ Ok (graph_by_place m g) }
+    ensures text { (m : Metamodel) (g : Graph) → IsTyped m g
+        → option_and_then (get (codes "graph")) (read (compact_text (graph_data m g)))
+        ≡ Some (objects_data m g) }
     ensures itself { (m : Metamodel) (g : Graph) → IsMeta m → IsOpening m g
         → graph_by_place m g ≡ g }
 {

@@ -1,6 +1,9 @@
 -- Names as they are written, and what they denote.
-use Rattle.std.specs.Prelude.{ℕ, List, [], ◌∷◌, length, Bool, true, false, not, nat_le, nat_lt, ◌&&◌, ◌||◌, ◌==◌, Option, Some, None, codes, if◌then◌else◌}
+use Rattle.std.specs.Prelude.{ℕ, List, [], ◌∷◌, length, Bool, true, false, not, nat_le, nat_lt, ◌&&◌, ◌||◌, ◌==◌, Option, Some, None, is_some, codes, if◌then◌else◌}
+use Rattle.std.specs.Borrow.{Bor}
+use Rattle.std.specs.HashMap.{HashMap, get_by}
 use Rattle.std.specs.List.{list_all, list_any, position}
+use Rattle.std.specs.Str.{bytes_eq}
 use Rattle.hs_types.specs.declared.meta.DataType.{DataType}
 use Rattle.hs_types.specs.declared.meta.DataType.TheVariants.{EInt, ELong, EBoolean, EString}
 use Rattle.hs_types.specs.declared.limits.TheConstants.{MAX_IDENTIFIER_BYTES}
@@ -26,6 +29,10 @@ is_identifier (b ∷ bs) =
 abbrev pub differ : List (List ℕ) → Bool
 differ [] = true
 differ (t ∷ ts) = not (list_any (same_text t) ts) && differ ts
+
+-- Among the names that are the keys of a map.
+abbrev pub is_seen : {X S : Type 0} → HashMap (Bor (List ℕ)) X S → List ℕ → Bool
+is_seen seen name = is_some (get_by (λ k. bytes_eq name k.now) seen)
 
 -- One of these classes has this name.
 abbrev pub is_class : List RawClass → List ℕ → Bool

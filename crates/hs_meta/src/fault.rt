@@ -8,7 +8,7 @@ ghost use Rattle.hs_meta.specs.Words.{model_word};
 pub enum ModelFaultKind {
     /// A declared name isn't an identifier.
     Name,
-    /// A class name comes again, or a class has two features of one name.
+    /// A class name is repeated, or a class has two features of one name.
     Twice,
     /// A supertype isn't a class.
     UnknownSuper,
@@ -21,7 +21,7 @@ pub enum ModelFaultKind {
     /// A reference has no room for a target, needs more than it has room for, or needs fewer than
     /// 0.
     BadBounds,
-    /// There are too many classes, or too many features in one.
+    /// There are too many classes, or a class has too many features.
     Limit,
 }
 

@@ -9,9 +9,9 @@ ghost use Rattle.hs_meta.specs.WrittenSupers as supertypes;
 ghost use Rattle.hs_types.specs.Metamodel as metamodel;
 
 use crate::fault::{ModelFault, ModelFaultKind, ModelPlace, fault};
-use crate::names::differ;
+use crate::names::{NameRef, differ};
 use crate::raw::{RawAttribute, RawClass, RawReference};
-use hs_expr::{Failure, List, Text, check_each, fault_if};
+use hs_expr::{Failure, List, check_each, fault_if};
 use hs_types::limits::MAX_FEATURES;
 use hs_types::reaches;
 use std::alloc::{AllocError, Global};
@@ -45,7 +45,7 @@ pub fn features_differ(
 {
     for (c, _) in classes.iter().enumerate() {
         let names = feature_names(alloc, classes, rows, c)?;
-        if !differ(alloc, names)? {
+        if !differ(alloc, names.as_slice())? {
             return Err(Failure::Fault(fault(
                 ModelPlace::Class { class: c },
                 ModelFaultKind::Twice,
@@ -79,12 +79,12 @@ pub fn features_few(
 
 /// The names of all features of class `c`.
 #[tactic(auto, using(crate::proofs::WrittenSupers::supers_each))]
-fn feature_names(
+fn feature_names<'a>(
     alloc: Global,
-    classes: &[RawClass],
+    classes: &'a [RawClass],
     rows: &[List<bool>],
     c: usize,
-) -> Result<List<Text>, AllocError>
+) -> Result<List<NameRef<'a>>, AllocError>
     requires { rows.now ≡ rows_for (supertypes.written_supers classes.now) }
     ensures { IfOk result (λ names. names ≡ spec.feature_names classes.now c) }
 {
@@ -104,35 +104,35 @@ fn conforms(rows: &[List<bool>], c: usize, d: usize) -> bool
     c == d || reaches(rows, c, d)
 }
 
-fn add_own_names(class: &RawClass, names: &mut List<Text>) -> Result<(), AllocError>
+fn add_own_names<'a>(class: &'a RawClass, names: &mut List<NameRef<'a>>) -> Result<(), AllocError>
     ensures { OnOk result (names.new ≡ names.old ++ spec.own_names class.now) }
 {
     add_attribute_names(class.attributes.as_slice(), names)?;
     add_reference_names(class.references.as_slice(), names)
 }
 
-fn add_attribute_names(
-    attributes: &[RawAttribute],
-    names: &mut List<Text>,
+fn add_attribute_names<'a>(
+    attributes: &'a [RawAttribute],
+    names: &mut List<NameRef<'a>>,
 ) -> Result<(), AllocError>
     ensures { OnOk result
         (names.new ≡ names.old ++ map (λ attribute. attribute.name) attributes.now) }
 {
     for attribute in attributes {
-        names.push(attribute.name.clone()?)?;
+        names.push(NameRef::new(&attribute.name))?;
     }
     Ok(())
 }
 
-fn add_reference_names(
-    references: &[RawReference],
-    names: &mut List<Text>,
+fn add_reference_names<'a>(
+    references: &'a [RawReference],
+    names: &mut List<NameRef<'a>>,
 ) -> Result<(), AllocError>
     ensures { OnOk result
         (names.new ≡ names.old ++ map (λ reference. reference.name) references.now) }
 {
     for reference in references {
-        names.push(reference.name.clone()?)?;
+        names.push(NameRef::new(&reference.name))?;
     }
     Ok(())
 }

@@ -1,15 +1,45 @@
 //! Names as they are written, and what they denote.
 
-ghost use Rattle.std.specs.Prelude.{◌≡◌, IfOk};
+ghost use Rattle.std.specs.Prelude.{◌≡◌, ℕ, List, IfOk, cond, true};
 ghost use Rattle.std.specs.List.{list_all};
+ghost use Rattle.hs_expr.specs.Lists.{same_text};
 ghost use Rattle.hs_meta.specs.Names as spec;
 
 use crate::raw::RawClass;
-use hs_expr::{List, Text};
+use hs_expr::Text;
 use hs_types::DataType;
 use hs_types::limits::MAX_IDENTIFIER_BYTES;
 use std::alloc::{AllocError, Global};
-use std::collections::BTreeSet;
+use std::collections::HashMap;
+use std::marker::Model;
+
+/// A borrowed name. Contracts see it as the name.
+#[derive(Drop)]
+pub struct NameRef<'a> {
+    name: &'a Text,
+}
+
+impl<'a> Model for NameRef<'a> {
+    ghost use Rattle.std.specs.Prelude.{List, ℕ};
+
+    ghost Value = { List ℕ };
+
+    ghost view = { λ borrowed. borrowed.name.now };
+}
+
+impl<'a> NameRef<'a> {
+    pub fn new(name: &'a Text) -> NameRef<'a>
+        ensures { result ≡ name.now }
+    {
+        NameRef { name }
+    }
+
+    fn as_str(&self) -> &'a str
+        ensures { result.now ≡ self.now }
+    {
+        self.name.as_str()
+    }
+}
 
 /// Whether a text can name a class, an attribute or a reference.
 pub fn is_identifier(name: &Text) -> bool
@@ -68,16 +98,24 @@ pub fn data_type_named(name: &Text) -> Option<DataType>
     }
 }
 
-/// Whether no text comes twice.
-pub fn differ(alloc: Global, texts: List<Text>) -> Result<bool, AllocError>
-    ensures { IfOk result (λ apart. apart ≡ spec.differ texts) }
+/// Whether no name comes twice.
+pub fn differ(alloc: Global, names: &[NameRef<'_>]) -> Result<bool, AllocError>
+    ensures { IfOk result (λ apart. apart ≡ spec.differ names.now) }
 {
-    let mut seen = BTreeSet::new(alloc);
-    for text in texts.into_vec() {
-        let is_new = seen.insert(text.into_string())?;
-        if !is_new {
+    let mut seen = HashMap::with_capacity(alloc, names.len())?;
+    for name in names {
+        if add_name(name.as_str(), &mut seen)? {
             return Ok(false);
         }
     }
     Ok(true)
+}
+
+/// Adds the name, and says whether it was there.
+fn add_name<'a>(name: &'a str, seen: &mut HashMap<&'a str, ()>) -> Result<bool, AllocError>
+    ensures known { IfOk result (λ known. known ≡ spec.is_seen seen.old name.now) }
+    ensures added { IfOk result (λ known. (other : List ℕ) → spec.is_seen seen.new other
+        ≡ cond (same_text name.now other) true (spec.is_seen seen.old other)) }
+{
+    Ok(seen.insert(name, ())?.is_some())
 }

@@ -19,7 +19,7 @@ run_of rules called args fuel number = course rules.units number called args fue
 abbrev pub rest_after : Outcome → Run → Run
 rest_after outcome run = λ outcomes. run (outcome ∷ outcomes)
 
--- The run asks for exactly these attempts, one by one, and after them it comes to this.
+-- The run asks for exactly these attempts, one by one, and then has this course.
 abbrev pub ComesTo : Rules → Run → List Made → Course → Type 0
 ComesTo rules run [] course = run [] ≡ course
 ComesTo rules run (made ∷ more) course =

@@ -47,7 +47,7 @@ pub fn lawful_reports_replay()
 {}
 
 /// A call of a rule has no attempt, or it has one, at this rule and with these arguments, which
-/// decides what the call comes to.
+/// decides how the call ends.
 pub fn rules_are_tried_once()
     ensures { (rules : Rules) (rule : ℕ) (args : Args) (fuel number : ℕ) (made : List Made)
         (course : Course)

@@ -3,56 +3,61 @@
 use crate::model::{BANK, model_of};
 use hs_expr::{Failure, List, Text, Value};
 use hs_graph::{
-    GraphFault, GraphFaultKind, GraphPlace, RawAttr, RawObject, RawRef, RawValue, build,
+    GraphFault, GraphFaultKind, GraphPlace, RawAttr, RawObject, RawRef, RawValue, Scalar, TextRef,
+    ValueRef, build,
 };
 use hs_types::Graph;
 use std::alloc::{AllocError, Global};
 use std::test::Fail;
 
 /// The value that is written so: `~` is none.
-fn value(alloc: Global, word: &str) -> Result<RawValue, AllocError> {
+fn value(word: &str) -> RawValue<'_> {
     if word == "~" {
-        return Ok(RawValue::NoValue);
+        return RawValue::NoValue;
     }
     if word == "true" {
-        return Ok(RawValue::Given(Value::Bool(true)));
+        return RawValue::Given(ValueRef::new(Scalar::Bool(true)));
     }
     match word.parse::<i64>() {
-        Ok(number) => Ok(RawValue::Given(Value::Int(number))),
-        Err(_) => Ok(RawValue::Given(Value::Text(Text::from_str(alloc, word)?))),
+        Ok(number) => RawValue::Given(ValueRef::new(Scalar::Int(number))),
+        Err(_) => RawValue::Given(ValueRef::new(Scalar::Text(word))),
     }
 }
 
-fn written_ref(alloc: Global, name: &str, targets: &str) -> Result<RawRef, AllocError> {
+fn written_ref<'a>(
+    alloc: Global,
+    name: &'a str,
+    targets: &'a str,
+) -> Result<RawRef<'a>, AllocError> {
     let mut made = RawRef {
-        name: Text::from_str(alloc, name)?,
+        name: TextRef::new(name),
         targets: List::new(alloc),
     };
     for target in targets.split(',') {
-        made.targets.push(Text::from_str(alloc, target)?)?;
+        made.targets.push(TextRef::new(target))?;
     }
     Ok(made)
 }
 
-fn named(alloc: Global, name: &str, class: &str) -> Result<RawObject, AllocError> {
-    Ok(RawObject {
-        name: Text::from_str(alloc, name)?,
-        class: Text::from_str(alloc, class)?,
+fn named<'a>(alloc: Global, name: &'a str, class: &'a str) -> RawObject<'a> {
+    RawObject {
+        name: TextRef::new(name),
+        class: TextRef::new(class),
         attrs: List::new(alloc),
         refs: List::new(alloc),
-    })
+    }
 }
 
 /// The object that is written `name:class attribute=value reference>target,target`.
-fn object(alloc: Global, text: &str) -> Result<RawObject, AllocError> {
+fn object<'a>(alloc: Global, text: &'a str) -> Result<RawObject<'a>, AllocError> {
     let (head, rest) = text.split_once(' ').unwrap_or((text, ""));
     let (name, class) = head.split_once(':').unwrap_or((head, ""));
-    let mut made = named(alloc, name, class)?;
+    let mut made = named(alloc, name, class);
     for word in rest.split(' ') {
         if let Some((name, written)) = word.split_once('=') {
             made.attrs.push(RawAttr {
-                name: Text::from_str(alloc, name)?,
-                value: value(alloc, written)?,
+                name: TextRef::new(name),
+                value: value(written),
             })?;
         }
         if let Some((name, targets)) = word.split_once('>') {
@@ -63,7 +68,7 @@ fn object(alloc: Global, text: &str) -> Result<RawObject, AllocError> {
 }
 
 /// The objects, written in order.
-fn objects(alloc: Global, text: &str) -> Result<List<RawObject>, AllocError> {
+fn objects<'a>(alloc: Global, text: &'a str) -> Result<List<RawObject<'a>>, AllocError> {
     let mut made = List::new(alloc);
     for word in text.split(';') {
         made.push(object(alloc, word)?)?;
@@ -71,7 +76,7 @@ fn objects(alloc: Global, text: &str) -> Result<List<RawObject>, AllocError> {
     Ok(made)
 }
 
-fn answer(alloc: Global, objects: &List<RawObject>) -> Result<Graph, Failure<GraphFault>> {
+fn answer(alloc: Global, objects: &List<RawObject<'_>>) -> Result<Graph, Failure<GraphFault>> {
     let Some(meta) = model_of(alloc, BANK) else {
         return Err(Failure::NoMemory);
     };
@@ -241,28 +246,28 @@ fn checks_come_in_their_order(rt: HostRuntime) {
 }
 
 /// As many bytes of `x`.
-fn long(alloc: Global, bytes: u32) -> Result<Text, AllocError> {
+fn long(alloc: Global, bytes: u32) -> Result<String, AllocError> {
     let mut text = String::new(alloc);
     for _ in 0..bytes {
         text.push('x')?;
     }
-    Ok(Text::from_string(text))
+    Ok(text)
 }
 
 fn name_of(alloc: Global, bytes: u32) -> Result<Graph, Failure<GraphFault>> {
+    let name = long(alloc, bytes)?;
     let mut objects = List::new(alloc);
-    let mut made = named(alloc, "", "Client")?;
-    made.name = long(alloc, bytes)?;
-    objects.push(made)?;
+    objects.push(named(alloc, name.as_str(), "Client"))?;
     answer(alloc, &objects)
 }
 
 fn text_of(alloc: Global, bytes: u32) -> Result<Graph, Failure<GraphFault>> {
+    let text = long(alloc, bytes)?;
     let mut objects = List::new(alloc);
-    let mut made = named(alloc, "a", "Client")?;
+    let mut made = named(alloc, "a", "Client");
     made.attrs.push(RawAttr {
-        name: Text::from_str(alloc, "name")?,
-        value: RawValue::Given(Value::Text(long(alloc, bytes)?)),
+        name: TextRef::new("name"),
+        value: RawValue::Given(ValueRef::new(Scalar::Text(text.as_str()))),
     })?;
     objects.push(made)?;
     answer(alloc, &objects)
@@ -284,20 +289,23 @@ fn names_and_texts_have_a_greatest_length(rt: HostRuntime) {
 }
 
 fn many_objects(alloc: Global, count: u32, class: &str) -> Result<Graph, Failure<GraphFault>> {
-    let mut objects = List::new(alloc);
+    let mut names = List::new(alloc);
     for i in 0..count {
-        let name = format!(in alloc; "o{i}")?;
-        objects.push(named(alloc, name.as_str(), class)?)?;
+        names.push(format!(in alloc; "o{i}")?)?;
+    }
+    let mut objects = List::new(alloc);
+    for name in names.iter() {
+        objects.push(named(alloc, name.as_str(), class))?;
     }
     answer(alloc, &objects)
 }
 
 /// An object with as many edges, the first to the object of this name and all others to itself.
 fn many_edges(alloc: Global, count: u32, first: &str) -> Result<Graph, Failure<GraphFault>> {
-    let mut made = named(alloc, "a", "Client")?;
+    let mut made = named(alloc, "a", "Client");
     let mut links = written_ref(alloc, "link", first)?;
     for _ in 1..count {
-        links.targets.push(Text::from_str(alloc, "a")?)?;
+        links.targets.push(TextRef::new("a"))?;
     }
     made.refs.push(links)?;
     let mut objects = List::new(alloc);

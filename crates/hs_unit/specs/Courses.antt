@@ -34,7 +34,7 @@ pub record Left : Type 0 where
   pub outcomes : List Outcome
   pub outs : List Out
 
--- What a run comes to: it is done, it has failed, it is out of fuel, or it asks for an attempt at
+-- How a run ends: it is done, it has failed, it is out of fuel, or it asks for an attempt at
 -- this rule with these arguments.
 pub data Course : Type 0 where
   Done : (left : Left) → Course

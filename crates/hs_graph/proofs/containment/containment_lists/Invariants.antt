@@ -1,7 +1,7 @@
-use Rattle.std.proofs.Common.{◌≡◌, map}
-use Rattle.std.specs.List.{range_with_len}
+use Rattle.std.proofs.Common.{◌≡◌, ◌++◌, drop, map}
+use Rattle.std.specs.List.{filter_map}
 use Rattle.hs_graph.specs.Problems as spec
 use Rattle.hs_graph.proofs.containment.containment_lists.Given as goal
 
-abbrev pub invariant-loop-n : goal.invariant-loop-n
-invariant-loop-n l = l.made ≡ map (spec.contained_objects l.meta l.graph) (range_with_len 0 l.n)
+abbrev pub invariant-loop-object : goal.invariant-loop-object
+invariant-loop-object l = l.made ++ map (λ object. filter_map (spec.contained_index l.meta l.graph) (spec.edges_leaving l.graph object.number)) (drop l.object-index l.object-items) ≡ spec.containment_lists l.meta l.graph

@@ -2,4 +2,4 @@ use Rattle.hs_graph.proofs.Inside.{inside_says}
 use Rattle.hs_graph.proofs.laws.cycles_are_reached.Goals as goal
 
 pub returns : goal.returns
-returns c = λ m g n typed. inside_says m g n n typed
+returns c = inside_says

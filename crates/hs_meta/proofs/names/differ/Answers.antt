@@ -1,37 +1,35 @@
-use Rattle.std.proofs.Common.{◌≡◌, ◌∙◌, ◌++◌, ◌∷◌, [], ap, sym, cond, true, false, length, append_assoc, string_bytes, arith}
-use Rattle.std.proofs.lemmas.Bool.{not-false, not-true}
-use Rattle.std.proofs.lemmas.Map.Text.{btree_set_updates_text}
-use Rattle.std.specs.BTreeSet.{contains_text}
+use Rattle.std.proofs.Common.{◌≡◌, ◌∙◌, ◌++◌, ◌∷◌, ◌+◌, ℕ, List, [], cond, drop, take, true, false, ap, sym}
+use Rattle.std.proofs.lemmas.List.{drop_more, take-append-drop, take_more}
 use Rattle.std.specs.List.{list_any}
-use Rattle.std.specs.Vec.Iter.{into_iter_items}
 use Rattle.hs_expr.specs.Lists.{same_text}
-use Rattle.hs_meta.specs.Names.{differ}
+use Rattle.hs_meta.specs.Names as spec
 use Rattle.hs_meta.proofs.Repeats.{among_more, differ_more, differ_not}
 use Rattle.hs_meta.proofs.names.differ.Goals as goal
 
-pub returns-then-not-is_new : goal.returns-then-not-is_new
-returns-then-not-is_new c =
-    let here : into_iter_items c.loop-text.text-iterator ≡ c.in-Some.text ∷ into_iter_items c.next.new.self = c.in-Some.ensures.steps.0 in
-    let split : c.loop-text.yielded ++ c.in-Some.text ∷ into_iter_items c.next.new.self ≡ c.args.texts = ap (λ ts. c.loop-text.yielded ++ ts) (sym here) ∙ c.loop-text.invariant.whole in
-    let known : contains_text c.loop-text.seen (string_bytes c.into_string.result) ≡ list_any (same_text c.in-Some.text) c.loop-text.yielded = ap (contains_text c.loop-text.seen) c.into_string.ensures ∙ c.loop-text.invariant.known c.in-Some.text in
-    let again : list_any (same_text c.in-Some.text) c.loop-text.yielded ≡ true = sym known ∙ not-false (contains_text c.loop-text.seen (string_bytes c.into_string.result)) (sym c.in_ok-is_new.ensures.added ∙ c.if-not-is_new.true) in
-    sym (ap differ (sym split) ∙ differ_not c.loop-text.yielded (into_iter_items c.next.new.self) c.in-Some.text again)
+pub returns-then-branch : goal.returns-then-branch
+returns-then-branch c =
+    let names = c.args.names.now in
+    let i = c.loop-name.name-index in
+    let name = c.name-item.result in
+    let known : list_any (same_text name) (take i names) ≡ true =
+    sym (c.loop-name.invariant.known name) ∙ ap (spec.is_seen c.loop-name.seen) (sym c.as_str.ensures) ∙ sym c.in_ok-add_name.ensures.known ∙ c.if-branch.true in
+    let split : take i names ++ name ∷ drop (i + 1) names ≡ names =
+    ap (λ (ns : List (List ℕ)). take i names ++ ns) (ap (λ n. n ∷ drop (i + 1) names) c.name-item.is ∙ sym (drop_more names i name c.loop-name-test.true)) ∙ take-append-drop i names in
+    sym (ap spec.differ (sym split) ∙ differ_not (take i names) (drop (i + 1) names) name known)
 
-pub loop-text-preserved : goal.loop-text-preserved
-loop-text-preserved c =
-    let here : into_iter_items c.loop-text.text-iterator ≡ c.in-Some.text ∷ into_iter_items c.next.new.self = c.in-Some.ensures.steps.0 in
-    let gone = c.in-Some.ensures.steps.1 in
-    let long = ap length here in
-    let was = c.loop-text.invariant.left in
-    let known : contains_text c.loop-text.seen (string_bytes c.into_string.result) ≡ list_any (same_text c.in-Some.text) c.loop-text.yielded = ap (contains_text c.loop-text.seen) c.into_string.ensures ∙ c.loop-text.invariant.known c.in-Some.text in
-    let new : list_any (same_text c.in-Some.text) c.loop-text.yielded ≡ false = sym known ∙ not-true (contains_text c.loop-text.seen (string_bytes c.into_string.result)) (sym c.in_ok-is_new.ensures.added ∙ c.if-not-is_new.false) in
+pub loop-name-preserved : goal.loop-name-preserved
+loop-name-preserved c =
+    let names = c.args.names.now in
+    let i = c.loop-name.name-index in
+    let name = c.name-item.result in
+    let more : take (i + 1) names ≡ take i names ++ name ∷ [] = take_more names i name c.loop-name-test.true ∙ ap (λ n. take i names ++ n ∷ []) (sym c.name-item.is) in
+    let new : list_any (same_text name) (take i names) ≡ false =
+    sym (c.loop-name.invariant.known name) ∙ ap (spec.is_seen c.loop-name.seen) (sym c.as_str.ensures) ∙ sym c.in_ok-add_name.ensures.known ∙ c.if-branch.false in
     record {
-      whole = append_assoc c.loop-text.yielded (c.in-Some.text ∷ []) (into_iter_items c.next.new.self) ∙ ap (λ ts. c.loop-text.yielded ++ ts) (sym here) ∙ c.loop-text.invariant.whole;
-      apart = differ_more c.loop-text.yielded c.in-Some.text c.loop-text.invariant.apart new;
+      apart = ap spec.differ more ∙ differ_more (take i names) name c.loop-name.invariant.apart new;
       known = λ text.
-          btree_set_updates_text (string_bytes c.into_string.result) c.loop-text.seen c.insert.new.self true c.in_ok-is_new.ensures.updates text
-          ∙ ap (λ t. cond (same_text t text) true (contains_text c.loop-text.seen text)) c.into_string.ensures
-          ∙ ap (cond (same_text c.in-Some.text text) true) (c.loop-text.invariant.known text)
-          ∙ sym (among_more c.loop-text.yielded c.in-Some.text text);
-      left = omega arith;
+          c.in_ok-add_name.ensures.added text
+          ∙ ap (λ n. cond (same_text n text) true (spec.is_seen c.loop-name.seen text)) c.as_str.ensures
+          ∙ ap (cond (same_text name text) true) (c.loop-name.invariant.known text)
+          ∙ sym (ap (list_any (same_text text)) more ∙ among_more (take i names) name text);
     }
