@@ -63,13 +63,25 @@ pub fn units_tried()
     ensures { units_meant small_bank
         (hiring
         ∷ unit 0 (codes "v") [] (call 0 (codes "u") [] ∷ [])
-        ∷ unit 0 (codes "u") (param given.In 0 (codes "x") (codes "Client") ∷ []) (call 0 (codes "open") (give (codes "a") (codes "x") ∷ written_bind.Give (word 0 (codes "n")) (written_atom.Int true (pos 5) (place 0)) ∷ take (codes "c") (codes "y") ∷ []) ∷ [])
+        ∷ unit 0 (codes "u") (param given.In 0 (codes "x") (codes "Client") ∷ [])
+        (call 0 (codes "open") (give (codes "a") (codes "x")
+        ∷ written_bind.Give (word 0 (codes "n")) (written_atom.Int true (pos 5) (place 0))
+        ∷ take (codes "c") (codes "y") ∷ []) ∷ [])
         ∷ [])
-        ≡ record { name = codes "v"; params = []; body = body.Sequential (record { callee = callee.Unit 1; binds = [] } ∷ []) }
+        ≡ record {
+          name = codes "v";
+          params = [];
+          body = body.Sequential (record { callee = callee.Unit 1; binds = [] } ∷ []);
+        }
         ∷ record {
           name = codes "u";
           params = record { direction = In; name = codes "x"; kind = Object 0 } ∷ [];
-          body = body.Sequential (record { callee = callee.Rule 0; binds = bind.Give (codes "a") (atom.Name (codes "x")) ∷ bind.Give (codes "n") (atom.Value (value.Int (negsuc 4))) ∷ bind.Take (codes "c") (codes "y") ∷ [] } ∷ []);
+          body = body.Sequential (record {
+            callee = callee.Rule 0;
+            binds = bind.Give (codes "a") (atom.Name (codes "x"))
+                ∷ bind.Give (codes "n") (atom.Value (value.Int (negsuc 4)))
+                ∷ bind.Take (codes "c") (codes "y") ∷ [];
+          } ∷ []);
         }
         ∷ [] }
 {}

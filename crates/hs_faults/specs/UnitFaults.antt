@@ -165,7 +165,8 @@ meant_params params =
 abbrev pub is_bound : List Bind → Param → Bool
 is_bound binds param = is_some (first_named tied_name binds param.name.text)
 
--- Each parameter to which something has to be given is bound. Of two with one name the first counts.
+-- Each parameter to which something has to be given is bound. Of two with one name the first
+-- counts.
 abbrev pub are_served : List Param → List Bind → Bool
 are_served params binds = list_all (is_bound binds) (filter takes_value (meant_params params))
 

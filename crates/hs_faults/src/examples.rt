@@ -77,7 +77,9 @@ pub fn calls_tried()
         (param In 2 (codes "a") (codes "Account") ∷ param Out 3 (codes "o") (codes "Client") ∷ [])
         (call 4 (codes "v") (give_number (codes "n") 5 ∷ give (codes "c") (codes "a")
         ∷ take (codes "d") (codes "o") ∷ []) ∷ [])
-        ∷ unit 5 (codes "v") (param In 6 (codes "n") (codes "int") ∷ param In 7 (codes "c") (codes "Client") ∷ param Out 8 (codes "d") (codes "Account") ∷ []) [] ∷ []) ≡ [] }
+        ∷ unit 5 (codes "v") (param In 6 (codes "n") (codes "int")
+        ∷ param In 7 (codes "c") (codes "Client") ∷ param Out 8 (codes "d") (codes "Account") ∷ [])
+        [] ∷ []) ≡ [] }
     ensures unknown { faults_of_units small_bank
         (unit 1 (codes "u") [] (call 2 (codes "v") [] ∷ []) ∷ []) ≡ only_unit 2 kind.UnknownUnit }
     ensures unbound { faults_of_units small_bank
