@@ -12,14 +12,13 @@ use Rattle.hs_types.specs.declared.graph.Slot.{Slot}
 use Rattle.hs_types.specs.declared.matching.Match.{Match}
 use Rattle.hs_types.specs.declared.meta.Metamodel.{Metamodel}
 use Rattle.hs_types.specs.declared.plan.End.{End}
-use Rattle.hs_types.specs.declared.plan.Plan.{Plan}
 use Rattle.hs_types.specs.declared.rule.PatternEdge.{PatternEdge}
 use Rattle.hs_types.specs.declared.rule.PatternNode.{PatternNode}
 use Rattle.hs_types.specs.declared.rule.Rule.{Rule}
 use Rattle.hs_types.specs.Dangling.{dropped_nodes, dropped_edges}
 use Rattle.hs_types.specs.Metamodel.{features_of, type_of}
 use Rattle.hs_types.specs.Pattern.{is_drop, is_left, is_make, left_nodes, left_edges, made_edges, made_nodes}
-use Rattle.hs_types.specs.Plan.{edges_for, end_of, made_slots, objects_for, plan_of}
+use Rattle.hs_types.specs.Plan.{Plan, edges_for, end_of, made_slots, objects_for, plan_of}
 use Rattle.hs_types.specs.PlainMatch.{kernel_of}
 use Rattle.hs_types.specs.Step.{new_edges, new_objects, object_after, step, slot_after}
 use Rattle.hs_types.specs.Arguments.{no_args}

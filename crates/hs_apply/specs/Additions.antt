@@ -9,13 +9,12 @@ use Rattle.hs_types.specs.declared.meta.Metamodel.{Metamodel}
 use Rattle.hs_types.specs.declared.plan.End.{End}
 use Rattle.hs_types.specs.declared.plan.End.TheVariants.{Old, New}
 use Rattle.hs_types.specs.declared.plan.MadeObject.{MadeObject}
-use Rattle.hs_types.specs.declared.plan.Plan.{Plan}
 use Rattle.hs_types.specs.declared.rule.PatternNode.{PatternNode}
 use Rattle.hs_types.specs.declared.rule.Rule.{Rule}
 use Rattle.hs_types.specs.Additions.{OnlyAdds}
 use Rattle.hs_types.specs.Arguments.{no_args}
 use Rattle.hs_types.specs.Metamodel.{default_of, features_of}
-use Rattle.hs_types.specs.Plan.{plan_of}
+use Rattle.hs_types.specs.Plan.{Plan, plan_of}
 
 -- The slot of an attribute with its default.
 abbrev pub default_slot : Metamodel → ℕ → Option Slot

@@ -10,13 +10,12 @@ use Rattle.hs_types.specs.declared.graph.Slot.{Slot}
 use Rattle.hs_types.specs.declared.meta.Metamodel.{Metamodel}
 use Rattle.hs_types.specs.declared.plan.MadeEdge.{MadeEdge}
 use Rattle.hs_types.specs.declared.plan.MadeObject.{MadeObject}
-use Rattle.hs_types.specs.declared.plan.Plan.{Plan}
 use Rattle.hs_types.specs.declared.plan.Write.{Write}
 use Rattle.hs_types.specs.declared.rule.SlotKind.{SlotKind}
 use Rattle.hs_types.specs.declared.rule.SlotKind.TheVariants.{Attribute, Link, Container}
 use Rattle.hs_expr.specs.Lists.{EachPair, has}
 use Rattle.hs_types.specs.Pattern.{is_kind}
-use Rattle.hs_types.specs.Plan.{Fits}
+use Rattle.hs_types.specs.Plan.{Plan, Fits}
 use Rattle.hs_types.specs.Step.{is_to, new_edges, new_objects, number_of, object_after, slot_after, step}
 use Rattle.hs_types.specs.TypedGraph.{IsTyped, edge_at, hash_name, object_at, value_at, value_in}
 use Rattle.hs_expr.proofs.Items.{All-at}

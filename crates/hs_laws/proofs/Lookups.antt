@@ -12,7 +12,7 @@ use Rattle.hs_types.specs.declared.graph.Slot.{Slot}
 use Rattle.hs_types.specs.declared.meta.Metamodel.{Metamodel}
 use Rattle.hs_types.specs.declared.plan.MadeEdge.{MadeEdge}
 use Rattle.hs_types.specs.declared.plan.MadeObject.{MadeObject}
-use Rattle.hs_types.specs.declared.plan.Plan.{Plan}
+use Rattle.hs_types.specs.Plan.{Plan}
 use Rattle.hs_types.specs.declared.plan.Write.{Write}
 use Rattle.hs_types.specs.declared.rule.SlotKind.{SlotKind}
 use Rattle.hs_types.specs.declared.rule.SlotKind.TheVariants.{Attribute, Link, Container}

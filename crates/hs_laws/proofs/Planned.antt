@@ -18,7 +18,6 @@ use Rattle.hs_types.specs.declared.meta.Metamodel.{Metamodel}
 use Rattle.hs_types.specs.declared.plan.End.{End}
 use Rattle.hs_types.specs.declared.plan.MadeEdge.{MadeEdge}
 use Rattle.hs_types.specs.declared.plan.MadeObject.{MadeObject}
-use Rattle.hs_types.specs.declared.plan.Plan.{Plan}
 use Rattle.hs_types.specs.declared.plan.Write.{Write}
 use Rattle.hs_types.specs.declared.request.Args.{Args}
 use Rattle.hs_types.specs.declared.rule.Mark.{Mark}
@@ -33,7 +32,7 @@ use Rattle.hs_types.specs.Copies.{Copy, copies_of, copy_env, images_of, nodes_of
 use Rattle.hs_expr.specs.Lists.{has}
 use Rattle.hs_types.specs.Metamodel.{Conforms, IsConcrete, IsMeta, FeatureFits, attributes_of, default_of, default_of_kind, feature_at, features_of, fits, is_of_type, target_of, type_of, type_of_kind}
 use Rattle.hs_types.specs.Pattern.{is_drop, is_left, is_make, made_edges, made_nodes, node_is}
-use Rattle.hs_types.specs.Plan.{CanBeMade, EndIs, SlotFits, copy_edges, copy_end, copy_objects, copy_writes, edges_for, end_of, made_slots, objects_for, plan_of, value_set, writes_of}
+use Rattle.hs_types.specs.Plan.{Plan, CanBeMade, EndIs, SlotFits, copy_edges, copy_end, copy_objects, copy_writes, edges_for, end_of, made_slots, objects_for, plan_of, value_set, writes_of}
 use Rattle.hs_types.specs.PlainMatch.{image, kernel_of}
 use Rattle.hs_types.specs.RuleForm.{EdgeFits, EndFits, IsRule, NodeFits, joins}
 use Rattle.hs_types.specs.Step.{step}

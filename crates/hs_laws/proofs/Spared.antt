@@ -15,7 +15,6 @@ use Rattle.hs_types.specs.declared.matching.Extension.{Extension}
 use Rattle.hs_types.specs.declared.matching.Match.{Match}
 use Rattle.hs_types.specs.declared.meta.Metamodel.{Metamodel}
 use Rattle.hs_types.specs.declared.plan.MadeObject.{MadeObject}
-use Rattle.hs_types.specs.declared.plan.Plan.{Plan}
 use Rattle.hs_types.specs.declared.plan.Write.{Write}
 use Rattle.hs_types.specs.declared.request.Args.{Args}
 use Rattle.hs_types.specs.declared.rule.Multi.{Multi}
@@ -31,7 +30,7 @@ use Rattle.hs_types.specs.Copies.{AreCopies, Copy, CopyFits, IsCopy, copies_from
 use Rattle.hs_expr.specs.Lists.{has, Apart}
 use Rattle.hs_types.specs.Metamodel.{attributes_of, default_of, fits}
 use Rattle.hs_types.specs.Pattern.{is_make, left_nodes, no_shape, node_is, shape_of}
-use Rattle.hs_types.specs.Plan.{copy_objects, copy_writes, made_slots, objects_for, plan_of, value_set, writes_of}
+use Rattle.hs_types.specs.Plan.{Plan, copy_objects, copy_writes, made_slots, objects_for, plan_of, value_set, writes_of}
 use Rattle.hs_types.specs.PlainMatch.{Extends, IsPlain, image, kernel_of, no_match}
 use Rattle.hs_types.specs.RuleForm.{IsRule, reads_in}
 use Rattle.hs_types.specs.Spares.{IsOld, IsSupported, LeavesKinds, Spares, touches_kind}

@@ -13,7 +13,6 @@ use Rattle.hs_types.specs.declared.plan.End.{End}
 use Rattle.hs_types.specs.declared.plan.End.TheVariants.{Old, New}
 use Rattle.hs_types.specs.declared.plan.MadeEdge.{MadeEdge}
 use Rattle.hs_types.specs.declared.plan.MadeObject.{MadeObject}
-use Rattle.hs_types.specs.declared.plan.Plan.{Plan}
 use Rattle.hs_types.specs.declared.plan.Write.{Write}
 use Rattle.hs_types.specs.declared.rule.SlotKind.{SlotKind}
 use Rattle.hs_types.specs.declared.rule.SlotKind.TheVariants.{Attribute}
@@ -21,7 +20,7 @@ use Rattle.hs_types.specs.Dangling.{NoneDangle}
 use Rattle.hs_expr.specs.Lists.{has, Differ, Rise}
 use Rattle.hs_types.specs.Metamodel.{Conforms, features_of, fits, target_of}
 use Rattle.hs_types.specs.Pattern.{is_kind}
-use Rattle.hs_types.specs.Plan.{CanBeMade, EndIs, SlotFits}
+use Rattle.hs_types.specs.Plan.{Plan, CanBeMade, EndIs, SlotFits}
 use Rattle.hs_types.specs.Step.{is_to, new_edges, new_objects, number_of, object_after, step, slot_after}
 use Rattle.hs_types.specs.TypedGraph.{AreSlotsOf, CanJoin, IsTyped, Stands, hash_name, object_at}
 use Rattle.hs_laws.proofs.Kept.{is_kind-same}

@@ -15,6 +15,7 @@ ghost use Rattle.hs_types.specs.TypedGraph.{IsTyped, IsOpening, hash_name};
 ghost use Rattle.hs_types.specs.ValidMatch.{IsValid, NoneIsValid};
 ghost use Rattle.hs_types.specs.PlainMatch.{IsPlain, kernel_of};
 ghost use Rattle.hs_types.specs.Dangling.{NoneDangle};
+ghost use Rattle.hs_expr.specs.Lexicographic.{IsBefore};
 ghost use Rattle.hs_types.specs.MatchOrder.{IsEarlier};
 ghost use Rattle.hs_types.specs.Arguments.{ArgsFit};
 ghost use Rattle.hs_types.specs.Conditions.{AreFit, AreTrue, IsAbsent, IsPresent, env_of};
@@ -91,7 +92,8 @@ pub fn dangling()
         (args_of (object_arg (codes "c") (codes "c1") ∷ [])) }
 {}
 
-/// Of nodes the first decides, and nodes come before edges.
+/// Of nodes the first decides, and nodes come before edges; of different numbers of nodes the order
+/// isn't that of nodes and edges in one list.
 pub fn orders()
     ensures first_node { IsEarlier (record { nodes = 0 ∷ 5 ∷ []; edges = 9 ∷ [] })
         (record { nodes = 1 ∷ 2 ∷ []; edges = 0 ∷ [] }) }
@@ -99,6 +101,9 @@ pub fn orders()
         (record { nodes = 1 ∷ 2 ∷ []; edges = 3 ∷ [] }) }
     ensures not_itself { IsEarlier (record { nodes = 1 ∷ []; edges = 0 ∷ [] })
         (record { nodes = 1 ∷ []; edges = 0 ∷ [] }) → ⊥ }
+    ensures longer { IsEarlier (record { nodes = 3 ∷ []; edges = 9 ∷ [] })
+        (record { nodes = 3 ∷ 5 ∷ []; edges = [] }) }
+    ensures not_as_one_list { IsBefore (3 ∷ 9 ∷ []) (3 ∷ 5 ∷ []) → ⊥ }
 {}
 
 /// Arguments: those that a transfer takes, one of the wrong kind, and one too many.

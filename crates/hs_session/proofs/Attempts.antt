@@ -8,10 +8,9 @@ use Rattle.hs_types.specs.declared.entry.MatchNames.{MatchNames}
 use Rattle.hs_types.specs.declared.graph.Graph.{Graph}
 use Rattle.hs_types.specs.declared.matching.Match.{Match}
 use Rattle.hs_types.specs.declared.meta.Metamodel.{Metamodel}
-use Rattle.hs_types.specs.declared.plan.Plan.{Plan}
 use Rattle.hs_types.specs.declared.rule.Rule.{Rule}
 use Rattle.hs_types.specs.Journal.{AppliedAsks, IsWithinNumbers, IsGone, dropped_objects, match_named, new_names, old_values}
-use Rattle.hs_types.specs.Plan.{plan_of}
+use Rattle.hs_types.specs.Plan.{Plan, plan_of}
 use Rattle.hs_types.specs.Step.{step}
 use Rattle.hs_types.specs.ValidMatch.{IsValid}
 use Rattle.hs_types.specs.Arguments.{no_args}

@@ -7,12 +7,11 @@ use Rattle.hs_types.specs.declared.entry.Entry.{Entry}
 use Rattle.hs_types.specs.declared.entry.Tried.{Tried}
 use Rattle.hs_types.specs.declared.graph.Graph.{Graph}
 use Rattle.hs_types.specs.declared.matching.Match.{Match}
-use Rattle.hs_types.specs.declared.plan.Plan.{Plan}
 use Rattle.hs_types.specs.declared.request.Args.{Args}
 use Rattle.hs_types.specs.declared.rule.Rule.{Rule}
 use Rattle.hs_types.specs.Arguments.{ArgsFit}
 use Rattle.hs_types.specs.Journal.{AreLawfulTries, after_journal, after_tries}
-use Rattle.hs_types.specs.Plan.{plan_of}
+use Rattle.hs_types.specs.Plan.{Plan, plan_of}
 use Rattle.hs_types.specs.Rules.{Rules}
 use Rattle.hs_types.specs.ValidMatch.{IsValid}
 use Rattle.hs_unit.specs.Courses.{Course, Asks}

@@ -8,7 +8,7 @@ use Rattle.hs_types.specs.declared.entry.Tried.{Tried}
 use Rattle.hs_types.specs.declared.entry.What.{What}
 use Rattle.hs_types.specs.declared.entry.What.TheVariants.{One, Group}
 use Rattle.hs_types.specs.declared.graph.Graph.{Graph}
-use Rattle.hs_types.specs.declared.plan.Plan.{Plan}
+use Rattle.hs_types.specs.Plan.{Plan}
 use Rattle.hs_types.specs.declared.request.Arg.TheVariants as arg
 use Rattle.hs_types.specs.declared.request.Args.{Args}
 use Rattle.hs_types.specs.declared.request.Request.{Request}

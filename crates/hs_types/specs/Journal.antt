@@ -22,14 +22,13 @@ use Rattle.hs_types.specs.declared.graph.Slot.{Slot}
 use Rattle.hs_types.specs.declared.matching.Extension.{Extension}
 use Rattle.hs_types.specs.declared.matching.Match.{Match}
 use Rattle.hs_types.specs.declared.meta.Metamodel.{Metamodel}
-use Rattle.hs_types.specs.declared.plan.Plan.{Plan}
 use Rattle.hs_types.specs.declared.request.Args.{Args}
 use Rattle.hs_types.specs.declared.rule.Rule.{Rule}
 use Rattle.hs_types.specs.Arguments.{ArgsFit}
 use Rattle.hs_expr.specs.Lexicographic.{sorted_by}
 use Rattle.hs_expr.specs.Lists.{map_all}
 use Rattle.hs_types.specs.Metamodel.{class_at, feature_at}
-use Rattle.hs_types.specs.Plan.{plan_of}
+use Rattle.hs_types.specs.Plan.{Plan, plan_of}
 use Rattle.hs_types.specs.Rules.{Rules}
 use Rattle.hs_types.specs.Step.{new_objects, step}
 use Rattle.hs_types.specs.TypedGraph.{object_at, object_named, value_at}

@@ -13,7 +13,6 @@ use Rattle.hs_types.specs.declared.plan.End.{End}
 use Rattle.hs_types.specs.declared.plan.End.TheVariants.{Old, New}
 use Rattle.hs_types.specs.declared.plan.MadeEdge.{MadeEdge}
 use Rattle.hs_types.specs.declared.plan.MadeObject.{MadeObject}
-use Rattle.hs_types.specs.declared.plan.Plan.{Plan}
 use Rattle.hs_types.specs.declared.plan.Write.{Write}
 use Rattle.hs_types.specs.declared.request.Args.{Args}
 use Rattle.hs_types.specs.declared.rule.PatternEdge.{PatternEdge}
@@ -30,6 +29,14 @@ use Rattle.hs_types.specs.Metamodel.{Conforms, attributes_of, default_of, featur
 use Rattle.hs_types.specs.Pattern.{is_make, made_nodes, made_edges, node_is}
 use Rattle.hs_types.specs.PlainMatch.{image, kernel_of}
 use Rattle.hs_types.specs.TypedGraph.{AreSlotsOf, object_at, edge_at, value_at, Stands}
+
+-- Which objects and edges go, which slots get which values, and which objects and edges are made.
+pub record Plan : Type 0 where
+  pub drop_objects : List ℕ
+  pub drop_edges : List ℕ
+  pub writes : List Write
+  pub make_objects : List MadeObject
+  pub make_edges : List MadeEdge
 
 -- The values that the `set`s write into slots of preserved nodes, in written order.
 abbrev pub writes_of : Env → List PatternNode → List ℕ → List SetItem → List Write

@@ -2,6 +2,7 @@
 
 use crate::{ClassNo, EdgeNo, FeatureNo, ObjectNo, Slot, SlotKind};
 use hs_expr::{List, Value};
+use std::marker::Model;
 
 /// An end of an edge that a plan makes: an object of the graph, or one that the plan makes, by its
 /// place among them.
@@ -35,7 +36,8 @@ pub struct MadeEdge {
 }
 
 /// What a step does to a graph, the kernel's part first, then copy by copy, each in written order.
-/// It names no new number and no new name: the step draws them.
+/// It names no new number and no new name: the step draws them. Contracts see it as the plain
+/// record `Plan` of the definitions.
 #[derive(Debug, Drop)]
 pub struct Plan {
     pub drop_objects: List<ObjectNo>,
@@ -43,4 +45,18 @@ pub struct Plan {
     pub writes: List<Write>,
     pub make_objects: List<MadeObject>,
     pub make_edges: List<MadeEdge>,
+}
+
+impl Model for Plan {
+    ghost use Rattle.hs_types.specs.Plan as spec;
+
+    ghost Value = { spec.Plan };
+
+    ghost view = { λ plan. record {
+      drop_objects = plan.drop_objects;
+      drop_edges = plan.drop_edges;
+      writes = plan.writes;
+      make_objects = plan.make_objects;
+      make_edges = plan.make_edges;
+    } };
 }
