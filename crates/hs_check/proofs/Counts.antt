@@ -31,7 +31,7 @@ use Rattle.hs_check.specs.Counts.{KeepAll, counts_in, is_set_of, is_where_of, mu
 use Rattle.hs_check.specs.Expressions.{set_in, set_meant, sets_in, where_in, wheres_in}
 use Rattle.hs_check.specs.Rules.{multi_at, multi_meant, rule_meant, rules_meant}
 use Rattle.hs_faults.specs.Contents.{rule_contents}
-use Rattle.hs_check.proofs.PartForms.{checked_in, names_in, said_in}
+use Rattle.hs_check.proofs.PartForms.{checked_in, names_in, statements_in}
 use Rattle.hs_expr.proofs.Faults.{none-from_verdict}
 use Rattle.hs_check.proofs.Parts.{kernel_of}
 use Rattle.hs_check.proofs.Filters.{filter_map-map, list_all-at}
@@ -100,7 +100,7 @@ module _ (m : Metamodel) (rule : WrittenRule) (clean : Clean m rule) (part : Blo
       go false = refl
       go true = some_mapped (set_meant m (declared_nodes rule.items) node.text attribute.text) (expr_found (expr_checked (names_in m rule home) value)) (kept k (Set home node attribute value) at)
 
-  part_counts : (length (wheres_in (said_in m rule) part), length (sets_in m (declared_nodes rule.items) (said_in m rule) part)) ≡ counts_in (statements rule.items) part
+  part_counts : (length (wheres_in (statements_in m rule) part), length (sets_in m (declared_nodes rule.items) (statements_in m rule) part)) ≡ counts_in (statements rule.items) part
   part_counts = ap₂ (λ (a b : ℕ). (a, b))
       (ap length (filter_map-map (where_in part) (checked_in m rule) (statements rule.items)) ∙ as_many (is_where_of part) (λ s. where_in part (checked_in m rule s)) (statements rule.items) where_counts)
       (ap length (filter_map-map (set_in m (declared_nodes rule.items) part) (checked_in m rule) (statements rule.items)) ∙ as_many (is_set_of part) (λ s. set_in m (declared_nodes rule.items) part (checked_in m rule s)) (statements rule.items) set_counts)

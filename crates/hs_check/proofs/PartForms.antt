@@ -46,8 +46,8 @@ visible_nodes m rule part before = before ++ nodes_in m (declared_nodes rule.ite
 abbrev pub checked_in : Metamodel → Rule → Statement → CheckedStatement
 checked_in m rule = checked_statement m (data_params rule.params) (declared_nodes rule.items)
 
-abbrev pub said_in : Metamodel → Rule → List CheckedStatement
-said_in m rule = map (checked_in m rule) (statements rule.items)
+abbrev pub statements_in : Metamodel → Rule → List CheckedStatement
+statements_in m rule = map (checked_in m rule) (statements rule.items)
 
 -- What the names of its expressions denote, and the kinds of what they read.
 abbrev pub names_in : Metamodel → Rule → BlockId → Names
@@ -89,7 +89,7 @@ nodes_fit m rule clean part =
 -- ---- edges
 
 module _ (m : Metamodel) (rule : Rule) (clean : Clean m rule) (part : BlockId) (before : List PatternNode) (opens : Opens m (declared_nodes rule.items) part before) where
-  pub edges_fit : All (λ edge. EdgeFits m (end_test part edge.mark) (visible_nodes m rule part before) edge) (edges_of_part m (declared_nodes rule.items) (said_in m rule) part)
+  pub edges_fit : All (λ edge. EdgeFits m (end_test part edge.mark) (visible_nodes m rule part before) edge) (edges_of_part m (declared_nodes rule.items) (statements_in m rule) part)
   edges_fit = All-made (λ (edge : PatternEdge). EdgeFits m (end_test part edge.mark) (visible_nodes m rule part before) edge) (edge_in m (declared_nodes rule.items) part) (checked_in m rule) (statements rule.items) (λ k s edge at made.
       let is = edge_made m (declared_nodes rule.items) part s edge made in
       let right = subst (IsRight m rule k) is.is (clean.said k s at) in
@@ -105,10 +105,10 @@ module _ (m : Metamodel) (rule : Rule) (clean : Clean m rule) (part : BlockId) (
       expr_fits (names_in m rule part) (scope_in m rule part before) (agree m rule clean part before opens)
       is.test kind.Bool e (sound_where m (data_params rule.params) (declared_nodes rule.items) part is.word is.test right) is.expr
 
-  pub wheres_fit : All (λ e. kind_in (scope_in m rule part before) e ≡ Some kind.Bool) (wheres_in (said_in m rule) part)
+  pub wheres_fit : All (λ e. kind_in (scope_in m rule part before) e ≡ Some kind.Bool) (wheres_in (statements_in m rule) part)
   wheres_fit = All-made (λ (e : Expr). kind_in (scope_in m rule part before) e ≡ Some kind.Bool)
       (where_in part) (checked_in m rule) (statements rule.items) (λ k s e at made. (where_fits k s e at made).0)
 
-  pub wheres_known : All (λ e. All (IsKnown (scope_in m rule part before)) (reads_of e)) (wheres_in (said_in m rule) part)
+  pub wheres_known : All (λ e. All (IsKnown (scope_in m rule part before)) (reads_of e)) (wheres_in (statements_in m rule) part)
   wheres_known = All-made (λ (e : Expr). All (IsKnown (scope_in m rule part before)) (reads_of e))
       (where_in part) (checked_in m rule) (statements rule.items) (λ k s e at made. (where_fits k s e at made).1)

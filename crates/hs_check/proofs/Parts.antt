@@ -32,7 +32,7 @@ use Rattle.hs_check.specs.Expressions.{sets_in, wheres_in}
 use Rattle.hs_check.specs.Rules.{multi_at, multi_meant, part_meant, rule_meant}
 use Rattle.hs_faults.specs.Contents.{rule_contents}
 use Rattle.hs_check.proofs.Bounds.{block_opens, few_nodes, few_open, is_few, kernel_opens}
-use Rattle.hs_check.proofs.PartForms.{checked_in, edges_fit, nodes_fit, said_in, visible_nodes, scope_in, wheres_fit, wheres_known}
+use Rattle.hs_check.proofs.PartForms.{checked_in, edges_fit, nodes_fit, statements_in, visible_nodes, scope_in, wheres_fit, wheres_known}
 use Rattle.hs_check.proofs.ExprKinds.{IsKnown}
 use Rattle.hs_check.proofs.BlockIds.{KeepsEdge, KeepsNode, are_multis, edges_keep, nodes_keep}
 use Rattle.hs_check.proofs.Edges.{end_test}
@@ -65,7 +65,7 @@ nodes_kept m rule part pattern = subst (All (λ (node : PatternNode). is_keep no
     let home_is : is_pattern d.block ≡ true = ap is_pattern (sym (homes_same part d.block is.0)) ∙ pattern in
     subst (λ (node : PatternNode). is_keep node.mark ≡ true) is.1 (keep_is m d (All-at KeepsNode (declared_nodes rule.items) k d (nodes_keep rule.items) at home_is))))
 
-edges_kept : (m : Metamodel) (rule : WrittenRule) (part : BlockId) → is_pattern part ≡ true → All (λ edge. is_keep edge.mark ≡ true) (edges_of_part m (declared_nodes rule.items) (said_in m rule) part)
+edges_kept : (m : Metamodel) (rule : WrittenRule) (part : BlockId) → is_pattern part ≡ true → All (λ edge. is_keep edge.mark ≡ true) (edges_of_part m (declared_nodes rule.items) (statements_in m rule) part)
 edges_kept m rule part pattern = All-made (λ (edge : PatternEdge). is_keep edge.mark ≡ true) (edge_in m (declared_nodes rule.items) part) (checked_in m rule) (statements rule.items) (λ k s edge at made.
     let is = edge_made m (declared_nodes rule.items) part s edge made in
     let preserved = subst KeepsEdge is.is (All-at KeepsEdge (statements rule.items) k s (edges_keep rule.items) at) pattern in
@@ -86,7 +86,7 @@ part_fits m rule clean part pattern few = record {
   nodes_kept = nodes_kept m rule part pattern;
   edges_kept = edges_kept m rule part pattern;
   nodes_fit = nodes_fit m rule clean part;
-  edges_fit = pattern_edges m part (visible_nodes m rule part (kernel_of m rule)) (edges_of_part m (declared_nodes rule.items) (said_in m rule) part) pattern
+  edges_fit = pattern_edges m part (visible_nodes m rule part (kernel_of m rule)) (edges_of_part m (declared_nodes rule.items) (statements_in m rule) part) pattern
       (edges_fit m rule clean part (kernel_of m rule) (block_opens m rule clean part (pattern_block part pattern) few));
 }
 
@@ -104,32 +104,32 @@ multi_block (home.Multi i) e = (refl, refl)
 
 -- The reads of a part of the rule.
 abbrev pub reads_there : Metamodel → WrittenRule → BlockId → List SlotRead
-reads_there m rule part = reads_in (wheres_in (said_in m rule) part) (sets_in m (declared_nodes rule.items) (said_in m rule) part)
+reads_there m rule part = reads_in (wheres_in (statements_in m rule) part) (sets_in m (declared_nodes rule.items) (statements_in m rule) part)
 
 reads_known : (m : Metamodel) (rule : WrittenRule) (clean : Clean m rule) (part : BlockId) (before : List PatternNode) → Opens m (declared_nodes rule.items) part before → All (IsKnown (scope_in m rule part before)) (reads_there m rule part)
 reads_known m rule clean part before opens =
-    All-append (IsKnown (scope_in m rule part before)) (flat_map reads_of (wheres_in (said_in m rule) part))
-    (flat_map (λ (item : SetItem). reads_of item.value) (sets_in m (declared_nodes rule.items) (said_in m rule) part))
-    (All-flat_map (IsKnown (scope_in m rule part before)) reads_of (wheres_in (said_in m rule) part) (wheres_known m rule clean part before opens))
-    (All-flat_map (IsKnown (scope_in m rule part before)) (λ (item : SetItem). reads_of item.value) (sets_in m (declared_nodes rule.items) (said_in m rule) part) (sets_known m rule clean part before opens))
+    All-append (IsKnown (scope_in m rule part before)) (flat_map reads_of (wheres_in (statements_in m rule) part))
+    (flat_map (λ (item : SetItem). reads_of item.value) (sets_in m (declared_nodes rule.items) (statements_in m rule) part))
+    (All-flat_map (IsKnown (scope_in m rule part before)) reads_of (wheres_in (statements_in m rule) part) (wheres_known m rule clean part before opens))
+    (All-flat_map (IsKnown (scope_in m rule part before)) (λ (item : SetItem). reads_of item.value) (sets_in m (declared_nodes rule.items) (statements_in m rule) part) (sets_known m rule clean part before opens))
 
 pub multi_fits : (m : Metamodel) → IsMeta m → (rule : WrittenRule) → Clean m rule → (part : BlockId) → is_multi part ≡ true → IsFewPart rule part → IsMulti m (rule_meant m rule) (multi_meant m (rule_contents m rule) (kernel_of m rule) part)
 multi_fits m is rule clean part multi few =
     let before = kernel_of m rule in
     let kinds = multi_block part multi in
     let opens = block_opens m rule clean part kinds.0 few in
-    let slots = slots_in_form m is before (nodes_in m (declared_nodes rule.items) part) (reads_there m rule part) (sets_in m (declared_nodes rule.items) (said_in m rule) part) (few_open m rule clean part few) in
+    let slots = slots_in_form m is before (nodes_in m (declared_nodes rule.items) part) (reads_there m rule part) (sets_in m (declared_nodes rule.items) (statements_in m rule) part) (few_open m rule clean part few) in
     record {
       form = record {
         nodes_fit = nodes_fit m rule clean part;
-        edges_fit = block_edges m part (visible_nodes m rule part before) (edges_of_part m (declared_nodes rule.items) (said_in m rule) part) kinds.1 (edges_fit m rule clean part before opens);
+        edges_fit = block_edges m part (visible_nodes m rule part before) (edges_of_part m (declared_nodes rule.items) (statements_in m rule) part) kinds.1 (edges_fit m rule clean part before opens);
         in_order = slots.0;
         at_own = slots.1;
       };
       wheres_fit = wheres_fit m rule clean part before opens;
       sets_fit = sets_fit m rule clean part before opens;
       sets_once = sets_once m rule clean part before opens;
-      slots = are_slots m is (scope_in m rule part before) before (nodes_in m (declared_nodes rule.items) part) (reads_there m rule part) (reads_there m rule part) (sets_in m (declared_nodes rule.items) (said_in m rule) part)
+      slots = are_slots m is (scope_in m rule part before) before (nodes_in m (declared_nodes rule.items) part) (reads_there m rule part) (reads_there m rule part) (sets_in m (declared_nodes rule.items) (statements_in m rule) part)
           (few_open m rule clean part few) (λ n a low high. refl) (reads_known m rule clean part before opens) (sets_fit m rule clean part before opens);
     }
 
@@ -183,7 +183,7 @@ pub kernel_fits : (m : Metamodel) → IsMeta m → (rule : WrittenRule) → Clea
 kernel_fits m is rule clean few =
     let opens = kernel_opens m rule clean in
     let nodes = kernel_of m rule in
-    let sets = sets_in m (declared_nodes rule.items) (said_in m rule) home.Kernel in
+    let sets = sets_in m (declared_nodes rule.items) (statements_in m rule) home.Kernel in
     let few_here = few_nodes m (declared_nodes rule.items) (statements rule.items) home.Kernel (is_few m rule clean).kernel in
     let slots = slots_in_form m is [] nodes (all_reads (rule_meant m rule)) sets (omega arith) in
     record {

@@ -25,7 +25,7 @@ use Rattle.hs_faults.specs.Marks.{mark_meant}
 use Rattle.hs_check.specs.Elements.{node_meant, node_number}
 use Rattle.hs_check.specs.Expressions.{set_in, set_meant, sets_in}
 use Rattle.hs_check.specs.Parameters.{class_meant}
-use Rattle.hs_check.proofs.PartForms.{IsRight, checked_in, names_in, said_in, visible_nodes, scope_in}
+use Rattle.hs_check.proofs.PartForms.{IsRight, checked_in, names_in, statements_in, visible_nodes, scope_in}
 use Rattle.hs_check.proofs.ExprKinds.{IsKnown}
 use Rattle.hs_check.proofs.Edges.{node_at_spot, number_at_spot}
 use Rattle.hs_check.proofs.StatementForms.{AttributeSpot, SetMade, attribute_spot, expr_fits, has_attribute, features_same, nodes_same, set_made}
@@ -99,15 +99,15 @@ module _ (m : Metamodel) (rule : Rule) (clean : Clean m rule) (part : BlockId) (
         value.1,
       )
 
-  pub sets_fit : All (λ item. (length before ≤ item.node) × SetFits m (scope_in m rule part before) (visible_nodes m rule part before) item) (sets_in m (declared_nodes rule.items) (said_in m rule) part)
+  pub sets_fit : All (λ item. (length before ≤ item.node) × SetFits m (scope_in m rule part before) (visible_nodes m rule part before) item) (sets_in m (declared_nodes rule.items) (statements_in m rule) part)
   sets_fit = All-made (λ (item : SetItem). (length before ≤ item.node) × SetFits m (scope_in m rule part before) (visible_nodes m rule part before) item)
       (set_in m (declared_nodes rule.items) part) (checked_in m rule) (statements rule.items) (λ k s item at made. (set_fits k s item at made).0)
 
-  pub sets_known : All (λ item. All (IsKnown (scope_in m rule part before)) (reads_of item.value)) (sets_in m (declared_nodes rule.items) (said_in m rule) part)
+  pub sets_known : All (λ item. All (IsKnown (scope_in m rule part before)) (reads_of item.value)) (sets_in m (declared_nodes rule.items) (statements_in m rule) part)
   sets_known = All-made (λ (item : SetItem). All (IsKnown (scope_in m rule part before)) (reads_of item.value))
       (set_in m (declared_nodes rule.items) part) (checked_in m rule) (statements rule.items) (λ k s item at made. (set_fits k s item at made).1)
 
-  pub sets_once : SetOnce (sets_in m (declared_nodes rule.items) (said_in m rule) part)
+  pub sets_once : SetOnce (sets_in m (declared_nodes rule.items) (statements_in m rule) part)
   sets_once = subst SetOnce (sym (filter_map-map (set_in m (declared_nodes rule.items) part) (checked_in m rule) (statements rule.items)))
       (EachPair-filter_map (λ (a b : SetItem). (a.node ≡ b.node) × (a.attribute ≡ b.attribute) → ⊥) (λ s. set_in m (declared_nodes rule.items) part (checked_in m rule s)) (statements rule.items)
       (λ i j s t a b low at_i at_j made_a made_b same.

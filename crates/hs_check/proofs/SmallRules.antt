@@ -31,7 +31,7 @@ use Rattle.hs_check.specs.Rules.{forbid_at, multi_at, multi_meant, part_meant, r
 use Rattle.hs_faults.specs.Contents.{rule_contents}
 use Rattle.hs_check.proofs.Params.{itself}
 use Rattle.hs_check.proofs.Bounds.{block_opens, few_in, few_nodes, is_few, kernel_opens}
-use Rattle.hs_check.proofs.PartForms.{IsRight, checked_in, names_in, said_in, visible_nodes}
+use Rattle.hs_check.proofs.PartForms.{IsRight, checked_in, names_in, statements_in, visible_nodes}
 use Rattle.hs_check.proofs.BlockIds.{are_multis, are_patterns_forbid, are_patterns_require, multis_counted, patterns_counted}
 use Rattle.hs_check.proofs.Edges.{ReferenceSpot, reference_spot}
 use Rattle.hs_check.proofs.StatementForms.{EdgeMade, edge_made, expr_flat, features_same, nodes_same, set_made, where_made}
@@ -93,7 +93,7 @@ module _ (m : Metamodel) (rule : WrittenRule) (clean : Clean m rule) (part : Blo
       (same_text-from x.made.target.text y.made.target.text targets))
       (same_text-from x.made.reference.text y.made.reference.text references)
 
-  pub small_shape : IsFewPart rule part → IsSmallShape (nodes_in m (declared_nodes rule.items) part) (edges_of_part m (declared_nodes rule.items) (said_in m rule) part)
+  pub small_shape : IsFewPart rule part → IsSmallShape (nodes_in m (declared_nodes rule.items) part) (edges_of_part m (declared_nodes rule.items) (statements_in m rule) part)
   small_shape few = subst (IsSmallShape (nodes_in m (declared_nodes rule.items) part)) (sym (filter_map-map (edge_in m (declared_nodes rule.items) part) (checked_in m rule) (statements rule.items))) (record {
     few_nodes = few_nodes m (declared_nodes rule.items) (statements rule.items) part few;
     few_edges =
@@ -113,7 +113,7 @@ module _ (m : Metamodel) (rule : WrittenRule) (clean : Clean m rule) (part : Blo
 
 -- ---- expressions
 
-flat : (m : Metamodel) (rule : WrittenRule) (part : BlockId) → AreFlat (wheres_in (said_in m rule) part) (sets_in m (declared_nodes rule.items) (said_in m rule) part)
+flat : (m : Metamodel) (rule : WrittenRule) (part : BlockId) → AreFlat (wheres_in (statements_in m rule) part) (sets_in m (declared_nodes rule.items) (statements_in m rule) part)
 flat m rule part = (
   All-made (λ (e : Expr). nesting e ≤ 32) (where_in part) (checked_in m rule) (statements rule.items) (λ k s e at made.
       let is = where_made m (data_params rule.params) (declared_nodes rule.items) part s e made in
@@ -144,15 +144,15 @@ small m rule clean forbids requires multis =
       multis = omega (arith, multis_made, counted, few_multis);
       kernel = small_shape m rule clean home.Kernel [] (kernel_opens m rule clean) few.kernel;
       each_forbid = All-map (λ (part : Part). IsSmallShape part.nodes part.edges) (part_meant m (rule_contents m rule)) (each forbid_at rule.items)
-          (All-from (λ (h : BlockId). IsSmallShape (nodes_in m (declared_nodes rule.items) h) (edges_of_part m (declared_nodes rule.items) (said_in m rule) h)) (each forbid_at rule.items) (λ k h at.
+          (All-from (λ (h : BlockId). IsSmallShape (nodes_in m (declared_nodes rule.items) h) (edges_of_part m (declared_nodes rule.items) (statements_in m rule) h)) (each forbid_at rule.items) (λ k h at.
           let few_here = All-at (IsFewPart rule) (each forbid_at rule.items) k h forbids at in
           small_shape m rule clean h kernel (block_opens m rule clean h (pattern_block h (All-at (λ (h : BlockId). is_pattern h ≡ true) (each forbid_at rule.items) k h (are_patterns_forbid rule.items) at)) few_here) few_here));
       each_need = All-map (λ (part : Part). IsSmallShape part.nodes part.edges) (part_meant m (rule_contents m rule)) (each require_at rule.items)
-          (All-from (λ (h : BlockId). IsSmallShape (nodes_in m (declared_nodes rule.items) h) (edges_of_part m (declared_nodes rule.items) (said_in m rule) h)) (each require_at rule.items) (λ k h at.
+          (All-from (λ (h : BlockId). IsSmallShape (nodes_in m (declared_nodes rule.items) h) (edges_of_part m (declared_nodes rule.items) (statements_in m rule) h)) (each require_at rule.items) (λ k h at.
           let few_here = All-at (IsFewPart rule) (each require_at rule.items) k h requires at in
           small_shape m rule clean h kernel (block_opens m rule clean h (pattern_block h (All-at (λ (h : BlockId). is_pattern h ≡ true) (each require_at rule.items) k h (are_patterns_require rule.items) at)) few_here) few_here));
       each_multi = All-map (λ (multi : Multi). IsSmallShape multi.shape.nodes multi.shape.edges × AreFlat multi.wheres multi.sets) (multi_meant m (rule_contents m rule) kernel) (each multi_at rule.items)
-          (All-from (λ (h : BlockId). IsSmallShape (nodes_in m (declared_nodes rule.items) h) (edges_of_part m (declared_nodes rule.items) (said_in m rule) h) × AreFlat (wheres_in (said_in m rule) h) (sets_in m (declared_nodes rule.items) (said_in m rule) h)) (each multi_at rule.items) (λ k h at.
+          (All-from (λ (h : BlockId). IsSmallShape (nodes_in m (declared_nodes rule.items) h) (edges_of_part m (declared_nodes rule.items) (statements_in m rule) h) × AreFlat (wheres_in (statements_in m rule) h) (sets_in m (declared_nodes rule.items) (statements_in m rule) h)) (each multi_at rule.items) (λ k h at.
           let few_here = All-at (IsFewPart rule) (each multi_at rule.items) k h multis at in
           (small_shape m rule clean h kernel (block_opens m rule clean h (multi_block h (All-at (λ (h : BlockId). is_multi h ≡ true) (each multi_at rule.items) k h (are_multis rule.items) at)).0 few_here) few_here, flat m rule h)));
       flat = flat m rule home.Kernel;

@@ -82,8 +82,8 @@ fn check_with<'a>(
     let nodes = nodes_by_name(alloc, meta, declared)?;
     as_failure(check_param_nodes(&nodes, params))?;
     let statements = statements(alloc, rule.items.as_slice())?;
-    let said = statements.as_slice();
-    let checked = check_statements(alloc, meta, params, &nodes, said)?;
-    check_sizes(alloc, rule, declared, said, checked.as_slice())?;
+    let all = statements.as_slice();
+    let checked = check_statements(alloc, meta, params, &nodes, all)?;
+    check_sizes(alloc, rule, declared, all, checked.as_slice())?;
     Ok(checked)
 }

@@ -10,20 +10,20 @@ use Rattle.hs_faults.proofs.rule.check_with.Goals as goal
 
 pub returns : goal.returns
 returns c =
-    let said : c.as_slice-said.result.now ≡ statements c.args.rule.now.items = c.as_slice-said.ensures ∙ c.in_ok-statements.ensures ∙ ap statements c.as_slice.ensures in
+    let all : c.as_slice-all.result.now ≡ statements c.args.rule.now.items = c.as_slice-all.ensures ∙ c.in_ok-statements.ensures ∙ ap statements c.as_slice.ensures in
     let params = rw c.as_slice-params.ensures at c.in_ok-check_params.ensures in
     let joined = rw (c.in_ok-nodes.ensures.1, c.as_slice-params.ensures) at c.check_param_nodes.ensures in
-    let stated = rw (c.in_ok-nodes.ensures.1, c.as_slice-params.ensures, said) at c.in_ok-checked.ensures.checked.0 in
-    let sizes = rw (c.as_slice-2.ensures, c.in_ok-checked.ensures.depth, c.in_ok-nodes.ensures.1, c.as_slice-params.ensures, said) at c.in_ok-check_sizes.ensures in
-    let made = rw (c.in_ok-nodes.ensures.1, c.as_slice-params.ensures, said, c.requires) at c.in_ok-checked.ensures.checked.1 in
+    let stated = rw (c.in_ok-nodes.ensures.1, c.as_slice-params.ensures, all) at c.in_ok-checked.ensures.checked.0 in
+    let sizes = rw (c.as_slice-2.ensures, c.in_ok-checked.ensures.depth, c.in_ok-nodes.ensures.1, c.as_slice-params.ensures, all) at c.in_ok-check_sizes.ensures in
+    let made = rw (c.in_ok-nodes.ensures.1, c.as_slice-params.ensures, all, c.requires) at c.in_ok-checked.ensures.checked.1 in
     (by_sizes c.args.meta.now c.args.rule.now c.args.declared.now (Ok tt) c.requires params c.in_ok-nodes.ensures.0 (sym joined ∙ c.in_ok-as_failure.ensures) stated sizes, made)
 
 pub returns-in_err-check_sizes : goal.returns-in_err-check_sizes
 returns-in_err-check_sizes c =
-    let said : c.as_slice-said.result.now ≡ statements c.args.rule.now.items = c.as_slice-said.ensures ∙ c.in_ok-statements.ensures ∙ ap statements c.as_slice.ensures in
+    let all : c.as_slice-all.result.now ≡ statements c.args.rule.now.items = c.as_slice-all.ensures ∙ c.in_ok-statements.ensures ∙ ap statements c.as_slice.ensures in
     let params = rw c.as_slice-params.ensures at c.in_ok-check_params.ensures in
     let joined = rw (c.in_ok-nodes.ensures.1, c.as_slice-params.ensures) at c.check_param_nodes.ensures in
-    let stated = rw (c.in_ok-nodes.ensures.1, c.as_slice-params.ensures, said) at c.in_ok-checked.ensures.checked.0 in
-    let sizes = rw (c.as_slice-2.ensures, c.in_ok-checked.ensures.depth, c.in_ok-nodes.ensures.1, c.as_slice-params.ensures, said) at c.in_err-check_sizes.ensures in
+    let stated = rw (c.in_ok-nodes.ensures.1, c.as_slice-params.ensures, all) at c.in_ok-checked.ensures.checked.0 in
+    let sizes = rw (c.as_slice-2.ensures, c.in_ok-checked.ensures.depth, c.in_ok-nodes.ensures.1, c.as_slice-params.ensures, all) at c.in_err-check_sizes.ensures in
     handed_on (λ (checked : List CheckedStatement). checked ≡ (rule_contents c.args.meta.now c.args.rule.now).statements) c.from_residual-in_err-check_sizes.result c.in_err-check_sizes.field-0.0 (verdict (faults_in_rule c.args.meta.now c.args.rule.now)) c.from_residual-in_err-check_sizes.ensures.1
     (by_sizes c.args.meta.now c.args.rule.now c.args.declared.now (Err c.in_err-check_sizes.field-0.0) c.requires params c.in_ok-nodes.ensures.0 (sym joined ∙ c.in_ok-as_failure.ensures) stated sizes)
