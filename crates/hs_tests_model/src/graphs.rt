@@ -263,14 +263,25 @@ fn name_of(alloc: Global, bytes: u32) -> Result<Graph, Failure<GraphFault>> {
 
 fn text_of(alloc: Global, bytes: u32) -> Result<Graph, Failure<GraphFault>> {
     let text = long(alloc, bytes)?;
-    let mut objects = List::new(alloc);
-    let mut made = named(alloc, "a", "Client");
-    made.attrs.push(RawAttr {
-        name: TextRef::new("name"),
-        value: RawValue::Given(ValueRef::new(Scalar::Text(text.as_str()))),
-    })?;
-    objects.push(made)?;
+    let objects = client(alloc, text.as_str())?;
     answer(alloc, &objects)
+}
+
+/// A client whose name is given by an attribute.
+fn client<'a>(alloc: Global, text: &'a str) -> Result<List<RawObject<'a>>, AllocError> {
+    let mut attrs = List::new(alloc);
+    attrs.push(RawAttr {
+        name: TextRef::new("name"),
+        value: RawValue::Given(ValueRef::new(Scalar::Text(text))),
+    })?;
+    let mut objects = List::new(alloc);
+    objects.push(RawObject {
+        name: TextRef::new("a"),
+        class: TextRef::new("Client"),
+        attrs,
+        refs: List::new(alloc),
+    })?;
+    Ok(objects)
 }
 
 #[test]
