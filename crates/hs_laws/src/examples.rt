@@ -8,12 +8,13 @@ ghost use Rattle.hs_expr.specs.Evaluation.{Env, value_of};
 ghost use Rattle.hs_types.specs.declared.entry.Cause.TheVariants as cause;
 ghost use Rattle.hs_types.specs.declared.graph.Graph.{Graph};
 ghost use Rattle.hs_types.specs.declared.meta.Metamodel.{Metamodel};
+ghost use Rattle.hs_types.specs.declared.rule.Mark.TheVariants.{Drop, Keep, Make};
 ghost use Rattle.hs_types.specs.declared.meta.DataType.TheVariants.{EInt};
 ghost use Rattle.hs_types.specs.Metamodel.{Conforms, HaveCommon, IsMeta, is_of_type};
 ghost use Rattle.hs_types.specs.RuleForm.{IsRule};
 ghost use Rattle.hs_types.specs.TypedGraph.{IsTyped, IsOpening, hash_name};
 ghost use Rattle.hs_types.specs.ValidMatch.{IsValid, NoneIsValid};
-ghost use Rattle.hs_types.specs.PlainMatch.{IsPlain, kernel_of};
+ghost use Rattle.hs_types.specs.PlainMatch.{IsPlain, kernel_of, edge_image};
 ghost use Rattle.hs_types.specs.Dangling.{NoneDangle};
 ghost use Rattle.hs_expr.specs.Lexicographic.{IsBefore};
 ghost use Rattle.hs_types.specs.MatchOrder.{IsEarlier};
@@ -24,7 +25,7 @@ ghost use Rattle.hs_types.specs.Journal.{IsLawful, IsLawfulWritten, IsUnlawfulAt
 ghost use Rattle.hs_types.specs.Plan.{Fits, plan_of};
 ghost use Rattle.hs_types.specs.Spares.{Spares};
 ghost use Rattle.hs_types.specs.Step.{step};
-ghost use Rattle.hs_laws.specs.Bank.{bank_rules, model, client, account, link, transfer, transfer_args, two_accounts, one_account, pair_with, three_with, at_match, lone, open_account, drop_client, unlink, two, add, touch, reset, own, alone, purge, sweep, owned_by_another, owned_by_a_third, args_of, object_arg, value_arg, number, nothing, just_client, client_with_new_account, two_clients, purge_args, copy, opens, adds, adds_first, opens_second, client_with_one, always_unless_it_overflows, opens_missed, opens_misnamed, opens_and_drops};
+ghost use Rattle.hs_laws.specs.Bank.{arrow, bank_rules, model, client, account, link, transfer, transfer_args, two_accounts, one_account, pair_with, three_with, at_match, lone, open_account, drop_client, unlink, two, add, touch, reset, own, alone, purge, sweep, owned_by_another, owned_by_a_third, args_of, object_arg, value_arg, number, nothing, just_client, client_with_new_account, two_clients, purge_args, copy, opens, adds, adds_first, opens_second, client_with_one, always_unless_it_overflows, opens_missed, opens_misnamed, opens_and_drops};
 ghost use Rattle.hs_laws.specs.Strange.{looped, family, abstract_object, slotless_account, client_for_account, reused_name, old_names, leaves_a_name_out, hang, slotless, drops};
 
 /// Metamodels: one that is, one whose class is its own supertype; conformance goes up alone;
@@ -72,7 +73,7 @@ pub fn expressions()
 {}
 
 /// Plain matches: two parallel edges serve two pattern edges, one doesn't, and neither does one
-/// object two nodes.
+/// object two nodes. The image of an edge is found by the left edges before it.
 pub fn plain_matches()
     ensures two_edges { IsPlain model (pair_with (link 0 0 0 1 ∷ link 1 0 0 1 ∷ []) 2) touch.shape
         (kernel_of (at_match (0 ∷ 1 ∷ []) (0 ∷ 1 ∷ []))) }
@@ -82,6 +83,8 @@ pub fn plain_matches()
         (kernel_of (at_match (0 ∷ 0 ∷ []) [])) → ⊥ }
     ensures conforming { IsPlain model (pair_with [] 0) two.shape
         (kernel_of (at_match (0 ∷ 1 ∷ []) [])) → ⊥ }
+    ensures edges_by_left_edges { edge_image
+        (arrow 0 0 1 Keep ∷ arrow 0 0 1 Make ∷ arrow 1 2 0 Drop ∷ []) (7 ∷ 9 ∷ []) 2 ≡ 9 }
 {}
 
 /// An account's owner can't go without the edge: it ends at the client.
