@@ -1,9 +1,6 @@
 -- What follows of an input, for its run.
-use Rattle.std.proofs.Common.{ℕ, ◌≡◌, ◌∙◌, List, [], ◌∷◌, Bool, true, false, length, Option, Some, None, refl, ap, sym, subst, arith}
-use Rattle.std.specs.Prelude.{◌&&◌, IfSome, IsSomeAnd, codes, not, slice_get, if◌then◌else◌}
-use Rattle.std.specs.Arc.{arc_value}
-use Rattle.std.specs.List.{All, AllByRecursion, list_all}
-use Rattle.std.proofs.Math.Dec.{eqb-suc-zero}
+use Rattle.std.proofs.Common.{ℕ, ◌≡◌, ◌∙◌, List, [], ◌∷◌, Bool, true, false, Option, Some, None, refl, ap, sym, subst, arith}
+use Rattle.std.specs.Prelude.{◌&&◌, IfSome, IsSomeAnd, not, slice_get, if◌then◌else◌}
 use Rattle.std.specs.Option.{option_and_then, option_map}
 use Rattle.serde_json.specs.Data.{Data}
 use Rattle.hs_text.specs.Canonical.{canonical_text}
@@ -21,7 +18,7 @@ use Rattle.hs_types.specs.Rules.{Rules}
 use Rattle.hs_types.specs.declared.unit.Callee.TheVariants as callee
 use Rattle.hs_types.specs.declared.unit.Unit.{Unit as RuleUnit}
 use Rattle.hs_types.specs.Limits.{IsSmallRule}
-use Rattle.hs_types.specs.Pattern.{is_drop, is_left}
+use Rattle.hs_types.specs.Pattern.{is_left}
 use Rattle.hs_types.specs.RuleForm.{IsRule}
 use Rattle.hs_types.specs.UnitForm.{IsRuleSet}
 use Rattle.hs_json.specs.Problems.{problems_text}
@@ -64,7 +61,6 @@ runnable m g rule sound small bare =
       room = record {
         objects = omega (arith, sound.is_opening.next_object, sound.few_objects, few_nodes);
         edges = omega (arith, sound.is_opening.next_edge, sound.few_edges, few_edges);
-        names = omega (arith, sound.low_names, few_nodes);
       };
     }
 
@@ -158,7 +154,7 @@ refused_left (Some bytes) Rest read refusal whole why = subst (λ (bs : List ℕ
 
 -- ---- what is given for an input
 
-pub given_problems : (bytes : List ℕ) (held : Contents) (input : Input) (text : List ℕ) → IsInput bytes held input → text ≡ problems_text (arc_value input.graph.meta) input.graph.graph → IsOutput Validate bytes None text
+pub given_problems : (bytes : List ℕ) (held : Contents) (input : Input) (text : List ℕ) → IsInput bytes held input → text ≡ problems_text input.graph.meta input.graph.graph → IsOutput Validate bytes None text
 given_problems bytes held input text is told = (held, input.syntax, input.sessions, refl, is.is_built, told ∙ ap (λ (m : Metamodel). problems_text m input.graph.graph) is.same_meta ∙ ap (problems_text held.meta) is.same_graph)
 
 pub given_rules : (bytes : List ℕ) (held : Contents) (input : Input) (text : List ℕ) → IsInput bytes held input → text ≡ canonical_text input.syntax.definitions → IsOutput Check bytes None text

@@ -1,5 +1,5 @@
 -- What is written of models has no float.
-use Rattle.std.proofs.Common.{ℕ, ◌≡◌, List, [], ◌∷◌, map, Bool, true, false, ◌||◌, refl, pos, negsuc}
+use Rattle.std.proofs.Common.{ℕ, ◌≡◌, List, [], ◌∷◌, map, Bool, false, ◌||◌, refl, pos, negsuc}
 use Rattle.std.proofs.lemmas.Bool.{or_parts}
 use Rattle.std.specs.Ordering.{nat_cmp, match_ordering}
 use Rattle.std.specs.declared.cmp.Ordering.{Ordering}
@@ -9,9 +9,7 @@ use Rattle.serde_json.specs.Data.{Data, Members, no_members, member, put}
 use Rattle.serde_json.specs.Written.{has_float, members_have_float}
 use Rattle.hs_expr.specs.declared.value.Value.{Value}
 use Rattle.hs_expr.specs.declared.value.Value.TheVariants as value
-use Rattle.hs_types.specs.declared.graph.Slot.{Slot}
-use Rattle.hs_types.specs.declared.meta.Metamodel.{Metamodel}
-use Rattle.hs_json_model.specs.Written.{Member, with_members, object_data, list_data, value_data, attrs_data, feature_name}
+use Rattle.hs_json_model.specs.Written.{Member, with_members, object_data, list_data, value_data}
 
 abbrev pub HaveNone : List Member → Type 0
 HaveNone [] = Unit {0}

@@ -1,6 +1,6 @@
 -- The text of a report: a line of compact JSON for each entry, for each reply, and for the graph.
 use Rattle.std.specs.Prelude.{ℕ, List, [], ◌∷◌, ◌++◌, map, codes, slice_get}
-use Rattle.std.specs.List.{flat_map, enumerate_from}
+use Rattle.std.specs.List.{enumerate_from}
 use Rattle.std.specs.Option.{option_map, unwrap_or}
 use Rattle.serde_json.specs.Data.{Data, boolean, number, unsigned, string, object, no_members}
 use Rattle.hs_expr.specs.declared.value.Value.{Value}
@@ -125,4 +125,4 @@ abbrev pub report_text : Rules → Report → List ℕ
 report_text rules r =
     lines_of (map (λ e. entry_data rules e.0 e.1) (enumerate_from 0 r.journal))
     ++ lines_of (map reply_data r.replies)
-    ++ line_of (graph_data r.graph.meta.value r.graph.graph)
+    ++ line_of (graph_data r.graph.meta r.graph.graph)

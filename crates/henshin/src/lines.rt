@@ -3,6 +3,7 @@
 ghost use Rattle.std.specs.Prelude.{◌≡◌, ℕ, List, [], ◌++◌, ◌∷◌, IfOk, OnOk, map, string_bytes, codes, false};
 ghost use Rattle.serde_json.specs.Data.{Data, string, no_members};
 ghost use Rattle.serde_json.specs.View.{view, members_view};
+ghost use Rattle.serde_json.specs.Written.{compact_text};
 ghost use Rattle.std.specs.List.{enumerate_from};
 ghost use Rattle.hs_json_model.specs.Written.{with_members, object_data, list_data, value_data, graph_data};
 ghost use Rattle.henshin.specs.ReportText.{number_data, arg_data, args_data, rule_name, extension_data, gone_data, values_data, match_members, change_members, outcome_members, tried_members, what_members, entry_data, word_text, outs_data, reply_data, report_text};
@@ -14,8 +15,8 @@ use hs_json_model::{
 };
 use hs_session::{Reply, Report, Word};
 use hs_types::{
-    Arg, Args, Entry, ExtensionNames, Gone, MatchNames, NamedArg, NamedValue, Outcome, Outs,
-    RuleSet, Tried, What,
+    Arg, Args, Entry, ExtensionNames, Gone, ListGraph, MatchNames, NamedArg, NamedValue, Outcome,
+    Outs, RuleSet, Tried, What,
 };
 use serde_json::{Value, json, put};
 use std::alloc::{AllocError, Global};
@@ -27,9 +28,17 @@ pub fn report_text(alloc: Global, rules: &RuleSet, report: &Report) -> Result<Te
     let mut text = String::new(alloc);
     add_entries(alloc, &mut text, rules, report.journal.as_slice())?;
     add_replies(alloc, &mut text, report.replies.as_slice())?;
-    let mut text = with_graph(alloc, text, &report.graph.meta, &report.graph.graph)?;
+    let mut text = with_typed_graph(alloc, text, &report.graph)?;
     text.push('\n')?;
     Ok(Text::from_string(text))
+}
+
+/// The text, and after it that of a graph over its own metamodel.
+fn with_typed_graph(alloc: Global, text: String, graph: &ListGraph) -> Result<String, AllocError>
+    ensures { IfOk result (λ written. string_bytes written
+        ≡ string_bytes text ++ compact_text (graph_data graph.now.meta graph.now.graph)) }
+{
+    with_graph(alloc, text, graph.meta(), graph)
 }
 
 fn add_entries(

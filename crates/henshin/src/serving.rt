@@ -1,7 +1,6 @@
 //! From a bundle's bytes to what a command gives for them.
 
 ghost use Rattle.std.specs.Prelude.{ℕ, ◌≡◌, IfOk, List, Option, Some, slice_get};
-ghost use Rattle.std.specs.Arc.{arc_value};
 ghost use Rattle.std.specs.Option.{option_and_then, option_copied};
 ghost use Rattle.serde_json.specs.Data.{Data};
 ghost use Rattle.hs_json.specs.Reading.{Contents};
@@ -48,13 +47,13 @@ pub fn serve(alloc: Global, command: Command, bytes: Vec<u8>) -> Result<Answer, 
 
 /// The problems of the graph.
 fn validated(alloc: Global, input: &Input) -> Result<Answer, AllocError>
-    requires sound { IsSound (arc_value input.now.graph.meta) input.now.graph.graph }
+    requires sound { IsSound input.now.graph.meta input.now.graph.graph }
     ensures { (bytes : List ℕ) (held : Contents) → IsInput bytes held input.now
         → IfOk result (λ answer. IsOutput Command.Validate bytes answer.report answer.text) }
 {
     Ok(Answer {
         report: None,
-        text: problems_text(alloc, &input.graph.meta, &input.graph.graph)?,
+        text: problems_text(alloc, input.graph.meta(), &input.graph)?,
     })
 }
 
@@ -71,8 +70,8 @@ fn checked(alloc: Global, input: &Input) -> Result<Answer, AllocError>
 
 /// The report of what is asked for.
 fn applied(alloc: Global, input: Input) -> Result<Answer, AllocError>
-    requires sound { IsSound (arc_value input.graph.meta) input.graph.graph }
-    requires same_model { arc_value input.graph.meta ≡ input.rules.meta }
+    requires sound { IsSound input.graph.meta input.graph.graph }
+    requires same_model { input.graph.meta ≡ input.rules.meta }
     requires asked { (found : Option Data) × (journal : Option Data)
         × (sessions_asked input.rules.rules input.rules.units found journal ≡ Some input.sessions) }
     ensures { (bytes : List ℕ) (held : Contents) → IsInput bytes held input
@@ -99,8 +98,8 @@ fn ran(
     rules: &RuleSet,
     sessions: &[List<Request>],
 ) -> Result<Report, AllocError>
-    requires sound { IsSound (arc_value graph.meta) graph.graph }
-    requires same_model { arc_value graph.meta ≡ rules.now.meta }
+    requires sound { IsSound graph.meta graph.graph }
+    requires same_model { graph.meta ≡ rules.now.meta }
     requires asked { (found : Option Data) × (journal : Option Data)
         × (sessions_asked rules.now.rules rules.now.units found journal ≡ Some sessions.now) }
     ensures { IfOk result (IsSerialReport rules.now graph.graph sessions.now) }

@@ -1,5 +1,5 @@
 -- What is made, item by item, and the plan of a rule that only adds.
-use Rattle.std.proofs.Common.{ℕ, ◌+◌, ◌≤◌, ◌≡◌, List, [], ◌∷◌, ◌++◌, Bool, true, false, map, length, Option, None, refl, ap, sym, subst, inl, inr, append-nil}
+use Rattle.std.proofs.Common.{ℕ, ◌+◌, ◌≤◌, ◌≡◌, List, [], ◌∷◌, Bool, false, map, length, Option, None, refl, ap, sym, subst, inl, inr, append-nil}
 use Rattle.std.specs.List.{filter, filter_map}
 use Rattle.std.specs.Option.{is_some, option_map}
 use Rattle.std.proofs.lemmas.Bool.{cases_Bool}
@@ -7,7 +7,6 @@ use Rattle.std.proofs.lemmas.List.{length-map}
 use Rattle.std.proofs.lemmas.List.Elements.{All-filter}
 use Rattle.hs_expr.specs.Evaluation.{Env}
 use Rattle.hs_types.specs.declared.graph.Graph.{Graph}
-use Rattle.hs_types.specs.declared.graph.Object.{Object}
 use Rattle.hs_types.specs.declared.graph.Slot.{Slot}
 use Rattle.hs_types.specs.declared.matching.Match.{Match}
 use Rattle.hs_types.specs.declared.meta.Metamodel.{Metamodel}
@@ -16,16 +15,26 @@ use Rattle.hs_types.specs.declared.rule.PatternEdge.{PatternEdge}
 use Rattle.hs_types.specs.declared.rule.PatternNode.{PatternNode}
 use Rattle.hs_types.specs.declared.rule.Rule.{Rule}
 use Rattle.hs_types.specs.Dangling.{dropped_nodes, dropped_edges}
-use Rattle.hs_types.specs.Metamodel.{features_of, type_of}
+use Rattle.hs_types.specs.Metamodel.{default_of, features_of, type_of}
 use Rattle.hs_types.specs.Pattern.{is_drop, is_left, is_make, left_nodes, left_edges, made_edges, made_nodes}
-use Rattle.hs_types.specs.Plan.{Plan, edges_for, end_of, made_slots, objects_for, plan_of}
+use Rattle.hs_types.specs.Plan.{MadeObject, Plan, edges_for, end_of, made_slots, objects_for, plan_of}
 use Rattle.hs_types.specs.PlainMatch.{kernel_of}
-use Rattle.hs_types.specs.Step.{new_edges, new_objects, object_after, step, slot_after}
 use Rattle.hs_types.specs.Arguments.{no_args}
 use Rattle.hs_types.specs.Additions.{OnlyAdds}
 use Rattle.hs_expr.proofs.Lists.{beside_none, length-filter-le}
 use Rattle.hs_types.proofs.Defaults.{no_type-no_default}
-use Rattle.hs_apply.specs.Additions.{AdditionsOnlyMake, OnlyMakes, default_slot, default_slots, made_object}
+use Rattle.hs_apply.specs.Additions.{AdditionsOnlyMake, OnlyMakes}
+
+-- The slot of an attribute with its default.
+abbrev pub default_slot : Metamodel → ℕ → Option Slot
+default_slot m a = option_map (λ v. record { attribute = a; value = v }) (default_of m a)
+
+-- A slot for each attribute of the class, with its default.
+abbrev pub default_slots : Metamodel → ℕ → List Slot
+default_slots m class = filter_map (default_slot m) (features_of m class)
+
+abbrev pub made_object : Metamodel → PatternNode → MadeObject
+made_object m node = record { class = node.class; slots = default_slots m node.class }
 
 -- What gives nothing where the test fails needs no test.
 filter_map-filter : {A B : Type 0} (f : A → Option B) (q : A → Bool) (xs : List A) → ((x : A) → q x ≡ false → f x ≡ None) → filter_map f (filter q xs) ≡ filter_map f xs
@@ -68,26 +77,3 @@ pub additions-only_make : AdditionsOnlyMake
 additions-only_make m g rule f adds =
     subst (λ (p : Plan). OnlyMakes p × (length p.make_objects ≤ length rule.shape.nodes) × (length p.make_edges ≤ length rule.shape.edges)) (sym (plan_adds m g rule f adds))
     (record { objects_stay = refl; edges_stay = refl; slots_stay = refl }, few_objects m rule.shape.nodes, few_edges (end_of rule.shape.nodes f.nodes) rule.shape.edges)
-
--- Nothing is written, nothing changes.
-written_none : (n : ℕ) (slots : List Slot) → map (slot_after [] n) slots ≡ slots
-written_none n [] = refl
-written_none n (slot ∷ slots) = ap (λ rest. slot ∷ rest) (written_none n slots)
-
-rewritten_none : (objects : List Object) → map (object_after []) objects ≡ objects
-rewritten_none [] = refl
-rewritten_none (o ∷ objects) = rw (written_none o.number o.slots, rewritten_none objects) refl
-
-all_kept : {A : Type 0} (xs : List A) → filter (λ x. true) xs ≡ xs
-all_kept [] = refl
-all_kept (x ∷ xs) = ap (λ rest. x ∷ rest) (all_kept xs)
-
--- The step of a plan that only makes.
-pub step_makes : (g : Graph) (plan : Plan) → OnlyMakes plan → ◌≡◌ {A = Graph} (step g plan) record {
-  objects = g.objects ++ new_objects g.next_object g.next_name plan.make_objects;
-  edges = g.edges ++ new_edges g.next_object g.next_edge plan.make_edges;
-  next_object = g.next_object + length plan.make_objects;
-  next_edge = g.next_edge + length plan.make_edges;
-  next_name = g.next_name + length plan.make_objects;
-}
-step_makes g plan only = rw (only.objects_stay, only.edges_stay, only.slots_stay) (rw (all_kept g.objects, all_kept g.edges, rewritten_none g.objects) refl)

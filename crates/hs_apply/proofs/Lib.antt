@@ -1,2 +1,3 @@
 pub mod Additions
-pub mod Names
+pub mod Dropped
+pub mod Blocks

@@ -1,12 +1,15 @@
-//! Steps: what a rule does at a match, and the graph after it.
+//! What a rule does at a match.
 //!
-//! [`plan`] says what a rule does at a match, without drawing numbers or names; [`install`] carries
-//! a plan out and draws them. Today's rules only add, so nothing is deleted or overwritten.
+//! [`plan`] gives the plan of a match in a host, multi-rules with their copies included, without
+//! drawing numbers or names; a host's `install` carries a plan out and draws them. A kernel and a
+//! copy are blocks alike: what a block deletes, writes and creates is added to the plan.
 #![tactic(auto)]
 
-mod installing;
+mod block;
+mod dropping;
 pub mod laws;
+mod making;
 mod planning;
+mod writes;
 
-pub use installing::{Stepped, install};
 pub use planning::plan;

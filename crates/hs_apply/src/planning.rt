@@ -1,124 +1,168 @@
-//! What a rule that only adds does at a match.
+//! What a rule does at a match, block by block.
 
-ghost use Rattle.std.specs.Prelude.{◌≡◌, ◌≤◌, ℕ, [], IfOk, length, map, take, option_copied};
-ghost use Rattle.hs_types.specs.declared.graph.Graph.{Graph};
-ghost use Rattle.hs_types.specs.Metamodel.{default_of, features_of};
-ghost use Rattle.hs_types.specs.Pattern.{is_make, made_nodes, node_is};
-ghost use Rattle.hs_types.specs.Plan.{edges_for, end_of, plan_of};
-ghost use Rattle.hs_types.specs.PlainMatch.{image};
-ghost use Rattle.hs_types.specs.Arguments.{no_args};
-ghost use Rattle.hs_types.specs.Additions.{OnlyAdds};
-ghost use Rattle.hs_apply.specs.Additions.{OnlyMakes, default_slots, made_object};
+ghost use Rattle.std.specs.Prelude.{◌≡◌, ◌≤◌, ◌+◌, [], IfOk, OnOk, length, map, slice_get};
+ghost use Rattle.std.specs.List.{All};
+ghost use Rattle.std.specs.Option.{unwrap_or};
+ghost use Rattle.hs_expr.specs.declared.expr.TheConstants.{MAX_NESTING};
+ghost use Rattle.hs_expr.specs.Evaluation.{nesting};
+ghost use Rattle.hs_types.specs.Copies.{copies_of};
+ghost use Rattle.hs_types.specs.Limits.{IsSmallRule};
+ghost use Rattle.hs_types.specs.Pattern.{made_nodes};
+ghost use Rattle.hs_types.specs.Plan.{plan_of};
+ghost use Rattle.hs_types.specs.PlainMatch.{kernel_of};
+ghost use Rattle.hs_apply.specs.Blocks as spec;
 
-use hs_expr::{List, Value};
-use hs_types::{
-    ClassNo, End, MadeEdge, MadeObject, Match, Meta, ObjectNo, PatternEdge, PatternNode, Plan,
-    Rule, Slot, image_of,
-};
+use crate::block::Block;
+use crate::dropping::{add_dropped_edges, add_dropped_nodes};
+use crate::making::{add_edges, add_objects};
+use crate::writes::add_writes;
+use hs_eval::MatchEnv;
+use hs_types::{Args, Extension, Host, Match, Multi, PatternNode, Plan, Rule};
 use std::alloc::{AllocError, Global};
 
-/// What a rule that only adds does at a match, without arguments: an object for each node that it
-/// creates, with its class's defaults, and an edge for each edge, in written order. It is the same
-/// in every graph.
-pub fn plan(alloc: Global, meta: &Meta, rule: &Rule, found: &Match) -> Result<Plan, AllocError>
-    requires only_adds { OnlyAdds rule.now }
-    ensures plan { IfOk result
-        (λ plan. (g : Graph) → plan ≡ plan_of meta.now g rule.now no_args found.now) }
-    ensures only_makes { IfOk result OnlyMakes }
-    ensures few { IfOk result (λ plan. (length plan.make_objects ≤ length rule.now.shape.nodes)
-        × (length plan.make_edges ≤ length rule.now.shape.edges)) }
-{
-    let nodes = rule.shape.nodes.as_slice();
-    let edges = rule.shape.edges.as_slice();
-    Ok(Plan {
-        drop_objects: List::new(alloc),
-        drop_edges: List::new(alloc),
-        writes: List::new(alloc),
-        make_objects: made_objects(alloc, meta, nodes)?,
-        make_edges: made_edges(alloc, nodes, found.nodes.as_slice(), edges)?,
-    })
-}
-
-fn made_objects(
+/// What the rule does at the match with these arguments: the kernel's part first, then copy by
+/// copy, each in written order. All values are those of the host's graph, in which nothing changes.
+/// It asks for no valid match. It is out of memory where copies make more objects than 32 bits
+/// count. The time is linear in the number of copies.
+pub fn plan<H: Host>(
     alloc: Global,
-    meta: &Meta,
-    nodes: &[PatternNode],
-) -> Result<List<MadeObject>, AllocError>
-    ensures { IfOk result (λ objects. objects ≡ map (made_object meta.now) (made_nodes nodes.now)) }
+    host: &H,
+    rule: &Rule,
+    args: &Args,
+    found: &Match,
+) -> Result<Plan, AllocError>
+    requires small { IsSmallRule rule.now }
+    ensures { IfOk result (λ plan. plan
+        ≡ plan_of (H.metamodel host.now) (H.graph host.now) rule.now args.now found.now) }
 {
-    let mut objects = List::new(alloc);
-    for node in nodes {
-        if node.mark.is_make() {
-            objects.push(MadeObject {
-                class: node.class,
-                slots: default_slots(alloc, meta, node.class)?,
-            })?;
-        }
-    }
-    Ok(objects)
+    let mut plan = Plan::new(alloc);
+    let kernel = Block::of_kernel(rule, found);
+    add_block(alloc, host, rule, args, &kernel, 0, &mut plan)?;
+    add_all_copies(alloc, host, rule, args, found, &mut plan)?;
+    Ok(plan)
 }
 
-/// A slot for each attribute of a class, with the attribute's default.
-fn default_slots(alloc: Global, meta: &Meta, class: ClassNo) -> Result<List<Slot>, AllocError>
-    ensures { IfOk result (λ slots. slots ≡ default_slots meta.now class) }
-{
-    let mut slots = List::new(alloc);
-    for feature in meta.features_of(class) {
-        if let Some(value) = meta.default_of(*feature) {
-            slots.push(Slot {
-                attribute: *feature,
-                value: value.clone()?,
-            })?;
-        }
-    }
-    Ok(slots)
-}
-
-fn made_edges(
+/// Adds what all copies of the match do.
+fn add_all_copies<H: Host>(
     alloc: Global,
-    nodes: &[PatternNode],
-    images: &[ObjectNo],
-    edges: &[PatternEdge],
-) -> Result<List<MadeEdge>, AllocError>
-    ensures { IfOk result (λ made. made ≡ edges_for (end_of nodes.now images.now) edges.now) }
+    host: &H,
+    rule: &Rule,
+    args: &Args,
+    found: &Match,
+    plan: &mut Plan,
+) -> Result<(), AllocError>
+    requires small { IsSmallRule rule.now }
+    ensures { OnOk result (plan.new
+        ≡ (spec.with_copies (H.metamodel host.now) (H.graph host.now) rule.now args.now
+        (kernel_of found.now) (record { plan = plan.old; count = 0 })
+        (copies_of rule.now found.now)).plan) }
 {
-    let mut made = List::new(alloc);
-    for edge in edges {
-        if edge.mark.is_make() {
-            made.push(MadeEdge {
-                source: end_of(nodes, images, edge.source),
-                reference: edge.reference,
-                target: end_of(nodes, images, edge.target),
-            })?;
-        }
+    let multis = rule.multis.as_slice();
+    let mut count = 0;
+    for index in 0..multis.len() {
+        let multi = &multis[index];
+        let copies = copies_at(found, index);
+        count = add_copies(alloc, host, rule, args, found, multi, copies, count, plan)?;
+    }
+    Ok(())
+}
+
+/// Adds what the block does, where the copies before it make `count` objects.
+fn add_block<H: Host>(
+    alloc: Global,
+    host: &H,
+    rule: &Rule,
+    args: &Args,
+    block: &Block<'_>,
+    count: u32,
+    plan: &mut Plan,
+) -> Result<(), AllocError>
+    requires shallow { All (λ item. nesting item.value ≤ MAX_NESTING) block.now.sets }
+    ensures { OnOk result (plan.new ≡ spec.with_block (H.metamodel host.now) (H.graph host.now)
+        rule.now args.now block.now count plan.old) }
+{
+    let shape = block.shape();
+    let nodes = shape.nodes.as_slice();
+    let env = MatchEnv {
+        host,
+        rule,
+        args,
+        base: block.base(),
+        base_images: block.base_images(),
+        nodes,
+        images: block.images(),
+    };
+    add_dropped_nodes(nodes, block.images(), &mut plan.drop_objects)?;
+    add_dropped_edges(
+        shape.edges.as_slice(),
+        block.edge_images(),
+        &mut plan.drop_edges,
+    )?;
+    add_writes(alloc, &env, block, &mut plan.writes)?;
+    add_objects(alloc, host.meta(), &env, block, &mut plan.make_objects)?;
+    add_edges(block, count, &mut plan.make_edges)?;
+    Ok(())
+}
+
+/// Adds what the copies of one multi-rule do, where those before them make `count` objects, and
+/// tells how many they make together.
+fn add_copies<H: Host>(
+    alloc: Global,
+    host: &H,
+    rule: &Rule,
+    args: &Args,
+    kernel: &Match,
+    multi: &Multi,
+    copies: &[Extension],
+    count: u32,
+    plan: &mut Plan,
+) -> Result<u32, AllocError>
+    requires shallow { All (λ item. nesting item.value ≤ MAX_NESTING) multi.now.sets }
+    ensures { IfOk result (λ made. record { plan = plan.new; count = made }
+        ≡ spec.with_copies (H.metamodel host.now) (H.graph host.now) rule.now args.now
+        (kernel_of kernel.now) (record { plan = plan.old; count = count })
+        (map (λ found. record { multi = multi.now; found = found }) copies.now)) }
+{
+    let mut made = count;
+    for found in copies {
+        let block = Block::of_copy(rule, kernel, multi, found);
+        add_block(alloc, host, rule, args, &block, made, plan)?;
+        made = more(made, multi.shape.nodes.as_slice())?;
     }
     Ok(made)
 }
 
-/// The object of a node: the one that is made for it, or its image.
-fn end_of(nodes: &[PatternNode], images: &[ObjectNo], node: u16) -> End
-    ensures { result ≡ end_of nodes.now images.now node }
+/// The count and the nodes that are made. It is out of memory where 32 bits don't count them.
+fn more(count: u32, nodes: &[PatternNode]) -> Result<u32, AllocError>
+    ensures { IfOk result (λ more. more ≡ count + length (made_nodes nodes.now)) }
 {
-    if is_made(nodes, node) {
-        End::New(made_before(nodes, node))
-    } else {
-        End::Old(image_of(&[], nodes, &[], images, node))
+    match u32::try_from(count_made(nodes)) {
+        Ok(made) => added(count, made),
+        Err(_) => Err(AllocError),
     }
 }
 
-fn is_made(nodes: &[PatternNode], node: u16) -> bool
-    ensures { result ≡ node_is is_make nodes.now node }
+fn count_made(nodes: &[PatternNode]) -> usize
+    ensures { result ≡ length (made_nodes nodes.now) }
 {
-    match nodes.get(usize::from(node)) {
-        Some(node) => node.mark.is_make(),
-        None => false,
+    nodes.iter().filter(|node| node.mark.is_make()).count()
+}
+
+fn added(count: u32, made: u32) -> Result<u32, AllocError>
+    ensures { IfOk result (λ sum. sum ≡ count + made) }
+{
+    match count.checked_add(made) {
+        Some(sum) => Ok(sum),
+        None => Err(AllocError),
     }
 }
 
-/// How many made nodes come before this one.
-fn made_before(nodes: &[PatternNode], node: u16) -> u32
-    ensures { result ≡ length (made_nodes (take node nodes.now)) }
+/// The copies of the multi-rule at this index. Where the match has none there, there are no copies.
+fn copies_at(found: &Match, index: usize) -> &[Extension]
+    ensures { result.now ≡ unwrap_or (slice_get found.now.copies index) [] }
 {
-    let before = nodes.iter().take(usize::from(node));
-    before.filter(|node| node.mark.is_make()).count() as u32
+    match found.copies.get(index) {
+        Some(copies) => copies.as_slice(),
+        None => &[],
+    }
 }

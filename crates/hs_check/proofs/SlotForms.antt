@@ -1,7 +1,7 @@
 -- The slots of the kernel or a multi-rule are those that are read or set, each once, in order.
 use Rattle.std.proofs.Common.{ℕ, zero, suc, ◌+◌, ◌-◌, ◌<◌, ◌≤◌, ◌≡◌, ◌&&◌, ◌||◌, ◌++◌, List, [], ◌∷◌, Bool, true, false, not, cond, eqb, map, length, slice_get, Option, Some, None, IsSomeAnd, is_some, if◌then◌else◌, refl, ap, ap₂, sym, ◌∙◌, subst, inl, inr, arith}
 use Rattle.std.proofs.lemmas.Bool.{and_from, and_parts, eq-eqb, eqb-true, false≢true, ne_eqb, or_cases, or_left, or_right}
-use Rattle.std.proofs.lemmas.List.Elements.{All-cons, All-head, All-map, All-nil, All-tail}
+use Rattle.std.proofs.lemmas.List.Elements.{All-cons, All-map, All-nil}
 use Rattle.std.proofs.lemmas.List.Folds.{list_any-append}
 use Rattle.std.proofs.lemmas.Option.{none-some, same_Some, slice_get_within}
 use Rattle.std.specs.List.{All, filter, list_any, position_or_len}
@@ -9,7 +9,6 @@ use Rattle.std.specs.Option.{option_and_then, option_map, option_map_or, unwrap_
 use Rattle.hs_expr.specs.declared.SlotRead.{SlotRead}
 use Rattle.hs_expr.specs.Evaluation.{Scope}
 use Rattle.hs_expr.specs.Verdict.{each_from}
-use Rattle.hs_types.specs.declared.meta.Class.{Class}
 use Rattle.hs_types.specs.declared.meta.Metamodel.{Metamodel}
 use Rattle.hs_types.specs.declared.rule.Mark.{Mark}
 use Rattle.hs_types.specs.declared.rule.Mark.TheVariants as mark
@@ -18,7 +17,7 @@ use Rattle.hs_types.specs.declared.rule.PatternSlot.{PatternSlot}
 use Rattle.hs_types.specs.declared.rule.SetItem.{SetItem}
 use Rattle.hs_types.specs.declared.rule.SlotKind.TheVariants.{Attribute}
 use Rattle.hs_expr.specs.Lists.{Differ, EachPair, has}
-use Rattle.hs_types.specs.Metamodel.{IsMeta, attributes_of, class_at, feature_at, features_of, type_of, kind_of_type}
+use Rattle.hs_types.specs.Metamodel.{IsMeta, attributes_of, features_of, type_of, kind_of_type}
 use Rattle.hs_types.specs.Pattern.{is_drop, is_keep, is_kind, is_left, node_is}
 use Rattle.hs_types.specs.RuleForm.{AreSlots, SetFits, SlotBefore, has_slot, is_among, slot_kind, slot_of_read, slot_of_set, slots_read, slots_set}
 use Rattle.hs_check.specs.Slots.{is_read, is_set, is_used, slot_at, slot_with, slots_at_node, slots_from}
@@ -26,6 +25,7 @@ use Rattle.hs_check.proofs.Visibility.{number_there}
 use Rattle.hs_check.proofs.Filters.{EachPair-from, EachPair-map, slice_get-rest}
 use Rattle.hs_expr.proofs.Items.{All-at, All-each_from, All-from, any_at}
 use Rattle.hs_expr.proofs.Lists.{EachPair-append, EachPair-filter}
+use Rattle.hs_types.proofs.ClassFeatures.{features_differ}
 
 -- Attribute a of node n is read, and is set.
 abbrev pub is_read_at : List SlotRead → ℕ → ℕ → Bool
@@ -33,24 +33,6 @@ is_read_at reads n a = is_read reads (slot_with n a false)
 
 abbrev pub is_set_at : List SetItem → ℕ → ℕ → Bool
 is_set_at sets n a = is_set sets (slot_with n a false)
-
--- ---- the features of a class differ
-
-apart_before : {A B : Type 0} (f : A → B) (x : A) (xs : List A) → All (λ b. f x ≡ b → ⊥) (map f xs) → All (λ y. x ≡ y → ⊥) xs
-apart_before f x [] a = All-nil (λ y. x ≡ y → ⊥)
-apart_before {A} {B} f x (y ∷ xs) a = All-cons (λ z. x ≡ z → ⊥) y xs (λ e. All-head (λ (b : B). f x ≡ b → ⊥) (f y) (map f xs) a (ap f e)) (apart_before f x xs (All-tail (λ (b : B). f x ≡ b → ⊥) (f y) (map f xs) a))
-
-differ_before : {A B : Type 0} (f : A → B) (xs : List A) → Differ (map f xs) → Differ xs
-differ_before f [] d = tt
-differ_before f (x ∷ xs) d = (apart_before f x xs d.0, differ_before f xs d.1)
-
-features_differ : (m : Metamodel) → IsMeta m → (c : ℕ) → Differ (features_of m c)
-features_differ m is c = go (class_at m c) refl
-  where
-    go : (o : Option Class) → class_at m c ≡ o → Differ (unwrap_or (option_map (λ (class : Class). class.features) o) [])
-    go None at = tt
-    go (Some class) at = differ_before (λ f. option_map (λ feature. feature.name) (feature_at m f)) class.features
-        (All-at (λ (k : Class). Differ (map (λ f. option_map (λ feature. feature.name) (feature_at m f)) k.features)) m.classes c class is.features_differ at)
 
 -- A number's first place is where it is.
 stands_first : (fs : List ℕ) (i a : ℕ) → Differ fs → slice_get fs i ≡ Some a → position_or_len (eqb a) fs ≡ i

@@ -1,9 +1,10 @@
 //! Values whose texts are lent.
 
-ghost use Rattle.std.specs.Prelude.{◌≡◌};
+ghost use Rattle.std.specs.Prelude.{◌≡◌, IfOk};
 ghost use Rattle.hs_eval.specs.ValueRefs.{referent};
 
-use hs_expr::Value;
+use hs_expr::{Text, Value};
+use std::alloc::{AllocError, Global};
 
 /// A value whose text is lent.
 #[derive(Clone, Copy, PartialEq, Eq, Debug)]
@@ -22,6 +23,17 @@ impl<'a> ValueRef<'a> {
             Value::Int(number) => ValueRef::Int(*number),
             Value::Bool(truth) => ValueRef::Bool(*truth),
             Value::Text(text) => ValueRef::Text(text.as_str()),
+        }
+    }
+
+    /// The value, with a text of its own.
+    pub fn to_value(self, alloc: Global) -> Result<Value, AllocError>
+        ensures { IfOk result (λ value. value ≡ referent self.entry) }
+    {
+        match self {
+            ValueRef::Int(number) => Ok(Value::Int(number)),
+            ValueRef::Bool(truth) => Ok(Value::Bool(truth)),
+            ValueRef::Text(text) => Ok(Value::Text(Text::from_str(alloc, text)?)),
         }
     }
 }

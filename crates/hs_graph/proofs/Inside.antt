@@ -14,7 +14,7 @@ use Rattle.hs_types.specs.declared.meta.Metamodel.{Metamodel}
 use Rattle.hs_expr.specs.Lists.{has}
 use Rattle.hs_types.specs.Reachability as below
 use Rattle.hs_types.specs.Metamodel.{target_of}
-use Rattle.hs_types.specs.TypedGraph.{IsOf, IsTyped, Stands, object_at}
+use Rattle.hs_types.specs.TypedGraph.{IsOf, IsTyped, Stands, object_numbered}
 use Rattle.hs_types.proofs.Paths.{says_reaches}
 use Rattle.hs_reach.specs.Reaching.{TargetsAreVertices}
 use Rattle.hs_types.proofs.Edges.{edge-from_test}
@@ -68,13 +68,13 @@ abbrev HasIndex : Graph → ℕ → Type 0
 HasIndex g n = (i : ℕ) × (index_of g n ≡ Some i)
 
 has_index : (g : Graph) (P : ℕ → Type 0) (n : ℕ) → Stands g P n → HasIndex g n
-has_index g P n s = go (object_at g n) refl s
+has_index g P n s = go (object_numbered g n) refl s
   where
     indexed : (o : Option ℕ) → index_of g n ≡ o → is_some o ≡ true → HasIndex g n
     indexed None e t = absurd (false≢true t)
     indexed (Some i) e t = (i, e)
 
-    go : (o : Option Object) → object_at g n ≡ o → IsSomeAnd o (λ object. P object.class) → HasIndex g n
+    go : (o : Option Object) → object_numbered g n ≡ o → IsSomeAnd o (λ object. P object.class) → HasIndex g n
     go None e t = absurd t
     go (Some object) e t =
         let here = found (λ (object : Object). eqb object.number n) g.objects object e in

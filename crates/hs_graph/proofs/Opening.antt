@@ -15,7 +15,7 @@ use Rattle.hs_types.specs.declared.graph.Object.{Object}
 use Rattle.hs_types.specs.declared.meta.Metamodel.{Metamodel}
 use Rattle.hs_expr.specs.Lists.{Differ, EachPair, Rise, has, same_text}
 use Rattle.hs_types.specs.Metamodel.{Conforms, IsMeta, feature_at, features_of, target_of}
-use Rattle.hs_types.specs.TypedGraph.{AreSlotsOf, CanJoin, HasFeature, IsOf, IsOpening, Stands, hash_name, object_at}
+use Rattle.hs_types.specs.TypedGraph.{AreSlotsOf, CanJoin, HasFeature, IsOf, IsOpening, Stands, hash_name, object_numbered}
 use Rattle.hs_graph.specs.declared.edges.Link.{Link}
 use Rattle.hs_graph.specs.declared.fault.GraphPlace.TheVariants as place
 use Rattle.hs_graph.specs.declared.raw.RawObject.{RawObject}
@@ -149,7 +149,7 @@ HasObjects m ws g = g.objects ≡ objects_from m 0 ws
 
 stands : (m : Metamodel) (ws : List RawObject) (g : Graph) (P : ℕ → Type 0) (n : ℕ) (w : RawObject) → HasObjects m ws g → slice_get ws n ≡ Some w → P (class_of_object m w) → Stands g P n
 stands m ws g P n w is e p =
-    let at : object_at g n ≡ Some (object_of_raw m n w) =
+    let at : object_numbered g n ≡ Some (object_of_raw m n w) =
     ap (λ os. find (λ (o : Object). eqb o.number n) os) is ∙ found_at m 0 n n ws w e (omega arith) in
     subst (λ (o : Option Object). IsSomeAnd o (λ object. P object.class)) (sym at) p
 

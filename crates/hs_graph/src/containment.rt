@@ -11,20 +11,21 @@ ghost use Rattle.hs_graph.specs.Problems as spec;
 use crate::index::{EdgeIndex, End, edges_of, index_by};
 use hs_expr::List;
 use hs_reach::on_cycles;
-use hs_types::{Edge, FeatureKind, FeatureNo, Graph, Meta, Object, ObjectNo};
+use hs_types::{Edge, FeatureKind, FeatureNo, ListGraph, Meta, Object, ObjectNo};
 use std::alloc::{AllocError, Global};
 
 /// For each object, by index, whether it contains itself, by one step or more.
 pub fn cycles_of(
     alloc: Global,
     meta: &Meta,
-    graph: &Graph,
+    graph: &ListGraph,
     outgoing: &EdgeIndex,
 ) -> Result<List<bool>, AllocError>
-    requires typed { IsTyped meta.now graph.now }
-    requires indexed { (n : ℕ) → indexed_edges outgoing.now n ≡ spec.edges_leaving graph.now n }
+    requires typed { IsTyped meta.now graph.now.graph }
+    requires indexed { (n : ℕ)
+        → indexed_edges outgoing.now n ≡ spec.edges_leaving graph.now.graph n }
     ensures { IfOk result (λ marks. (i : ℕ) → get_or marks i false
-        ≡ reaches (spec.containment_lists meta.now graph.now) i i) }
+        ≡ reaches (spec.containment_lists meta.now graph.now.graph) i i) }
 {
     let containment_lists = containment_lists(alloc, meta, graph, outgoing)?;
     on_cycles(alloc, containment_lists.as_slice())
@@ -34,15 +35,16 @@ pub fn cycles_of(
 fn containment_lists(
     alloc: Global,
     meta: &Meta,
-    graph: &Graph,
+    graph: &ListGraph,
     outgoing: &EdgeIndex,
 ) -> Result<List<List<usize>>, AllocError>
-    requires typed { IsTyped meta.now graph.now }
-    requires indexed { (n : ℕ) → indexed_edges outgoing.now n ≡ spec.edges_leaving graph.now n }
-    ensures { IfOk result (λ made. made ≡ spec.containment_lists meta.now graph.now) }
+    requires typed { IsTyped meta.now graph.now.graph }
+    requires indexed { (n : ℕ)
+        → indexed_edges outgoing.now n ≡ spec.edges_leaving graph.now.graph n }
+    ensures { IfOk result (λ made. made ≡ spec.containment_lists meta.now graph.now.graph) }
 {
     let mut made = List::new(alloc);
-    for object in graph.objects.as_slice() {
+    for object in graph.objects() {
         let edges = edges_of(outgoing, object.number);
         made.push(contained_indices(alloc, meta, graph, edges)?)?;
     }
@@ -52,12 +54,12 @@ fn containment_lists(
 fn contained_indices(
     alloc: Global,
     meta: &Meta,
-    graph: &Graph,
+    graph: &ListGraph,
     edges: &[Edge],
 ) -> Result<List<usize>, AllocError>
-    requires typed { IsTyped meta.now graph.now }
+    requires typed { IsTyped meta.now graph.now.graph }
     ensures { IfOk result
-        (λ made. made ≡ filter_map (spec.contained_index meta.now graph.now) edges.now) }
+        (λ made. made ≡ filter_map (spec.contained_index meta.now graph.now.graph) edges.now) }
 {
     let mut made = List::new(alloc);
     for edge in edges {
@@ -69,9 +71,9 @@ fn contained_indices(
 }
 
 /// The index of the object that the edge contains.
-fn contained_index(meta: &Meta, graph: &Graph, edge: &Edge) -> Option<usize>
-    requires typed { IsTyped meta.now graph.now }
-    ensures { result ≡ spec.contained_index meta.now graph.now edge.now }
+fn contained_index(meta: &Meta, graph: &ListGraph, edge: &Edge) -> Option<usize>
+    requires typed { IsTyped meta.now graph.now.graph }
+    ensures { result ≡ spec.contained_index meta.now graph.now.graph edge.now }
 {
     if is_containment(meta, edge.reference) {
         index_of(meta, graph, edge.target)
@@ -81,12 +83,12 @@ fn contained_index(meta: &Meta, graph: &Graph, edge: &Edge) -> Option<usize>
 }
 
 /// The index of the object of this number.
-fn index_of(meta: &Meta, graph: &Graph, number: ObjectNo) -> Option<usize>
-    requires typed { IsTyped meta.now graph.now }
-    ensures { result ≡ spec.index_of graph.now number }
+fn index_of(meta: &Meta, graph: &ListGraph, number: ObjectNo) -> Option<usize>
+    requires typed { IsTyped meta.now graph.now.graph }
+    ensures { result ≡ spec.index_of graph.now.graph number }
 {
     // In a graph that was read, numbers are indices.
-    let objects = graph.objects.as_slice();
+    let objects = graph.objects();
     let near = number as usize;
     if is_at(objects, near, number) {
         return Some(near);
@@ -109,22 +111,22 @@ fn is_at(objects: &[Object], index: usize, number: ObjectNo) -> bool
 }
 
 /// The edges that contain an object, by the object.
-pub fn containing_of(alloc: Global, meta: &Meta, graph: &Graph) -> Result<EdgeIndex, AllocError>
+pub fn containing_of(alloc: Global, meta: &Meta, graph: &ListGraph) -> Result<EdgeIndex, AllocError>
     ensures { IfOk result (λ edges. (n : ℕ) → indexed_edges edges n
         ≡ filter (λ e. spec.is_containment meta.now e.reference)
-        (spec.edges_entering graph.now n)) }
+        (spec.edges_entering graph.now.graph n)) }
 {
     let edges = containing_edges(alloc, meta, graph)?;
     let index = index_by(End::Target, edges)?;
     Ok(index)
 }
 
-fn containing_edges(alloc: Global, meta: &Meta, graph: &Graph) -> Result<List<Edge>, AllocError>
+fn containing_edges(alloc: Global, meta: &Meta, graph: &ListGraph) -> Result<List<Edge>, AllocError>
     ensures { IfOk result (λ edges. edges
-        ≡ filter (λ e. spec.is_containment meta.now e.reference) graph.now.edges) }
+        ≡ filter (λ e. spec.is_containment meta.now e.reference) graph.now.graph.edges) }
 {
     let mut made = List::new(alloc);
-    for edge in graph.edges.as_slice() {
+    for edge in graph.edges() {
         if is_containment(meta, edge.reference) {
             made.push(*edge)?;
         }

@@ -4,13 +4,13 @@ ghost use Rattle.std.specs.Prelude.{◌≡◌, ◌≤◌, ℕ, IfOk, OnOk, eqb, 
 ghost use Rattle.std.specs.Option.{option_or};
 ghost use Rattle.std.specs.List.{All, filter};
 ghost use Rattle.std.specs.List.Sorted.{IsNonDecreasingBy};
-ghost use Rattle.hs_types.specs.TypedGraph.{object_at};
+ghost use Rattle.hs_types.specs.TypedGraph.{object_numbered};
 ghost use Rattle.hs_graph.specs.Ends.{end_number};
 ghost use Rattle.hs_graph.specs.Index.{indexed_edges, indexed_name, indexed_object};
 ghost use Rattle.hs_graph.specs.Problems.{edges_leaving};
 
 use hs_expr::List;
-use hs_types::{Edge, Graph, Object, ObjectNo};
+use hs_types::{Edge, ListGraph, Object, ObjectNo};
 use std::alloc::{AllocError, Global};
 use std::collections::BTreeMap;
 use std::marker::Model;
@@ -49,12 +49,12 @@ impl Model for EdgeIndex {
 }
 
 /// The objects of the graph by their numbers: of one number the first.
-pub fn objects_of(alloc: Global, graph: &Graph) -> Result<ObjectIndex<'_>, AllocError>
+pub fn objects_of(alloc: Global, graph: &ListGraph) -> Result<ObjectIndex<'_>, AllocError>
     ensures { IfOk result (λ objects. (n : ℕ)
-        → option_map (λ o. o.now) (indexed_object objects n) ≡ object_at graph.now n) }
+        → option_map (λ o. o.now) (indexed_object objects n) ≡ object_numbered graph.now.graph n) }
 {
-    let mut objects = no_objects(alloc, graph.objects.len())?;
-    for object in graph.objects.as_slice() {
+    let mut objects = no_objects(alloc, graph.objects().len())?;
+    for object in graph.objects() {
         add_object(&mut objects, object)?;
     }
     Ok(objects)
@@ -109,10 +109,19 @@ pub fn object_of<'a>(objects: &ObjectIndex<'a>, number: ObjectNo) -> Option<&'a 
 }
 
 /// The edges by the objects that they leave.
-pub fn outgoing_of(alloc: Global, graph: &Graph) -> Result<EdgeIndex, AllocError>
-    ensures { IfOk result (λ edges. (n : ℕ) → indexed_edges edges n ≡ edges_leaving graph.now n) }
+pub fn outgoing_of(alloc: Global, graph: &ListGraph) -> Result<EdgeIndex, AllocError>
+    ensures { IfOk result
+        (λ edges. (n : ℕ) → indexed_edges edges n ≡ edges_leaving graph.now.graph n) }
 {
-    index_by(End::Source, graph.edges.clone()?)
+    index_by(End::Source, List::from_vec(copied(alloc, graph.edges())?))
+}
+
+fn copied(alloc: Global, edges: &[Edge]) -> Result<Vec<Edge>, AllocError>
+    ensures { IfOk result (λ copy. copy.items ≡ edges.now) }
+{
+    let mut copy = Vec::with_capacity(alloc, edges.len())?;
+    copy.extend_from_slice(edges)?;
+    Ok(copy)
 }
 
 /// The edges by that end.

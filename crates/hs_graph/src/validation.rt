@@ -13,19 +13,19 @@ use crate::containment::{containing_of, cycles_of};
 use crate::index::{EdgeIndex, edges_of, outgoing_of};
 use crate::problem::{Problem, ProblemKind};
 use hs_expr::List;
-use hs_types::{Edge, FeatureKind, FeatureNo, Graph, Meta, Object, ObjectNo};
+use hs_types::{Edge, FeatureKind, FeatureNo, ListGraph, Meta, Object, ObjectNo};
 use std::alloc::{AllocError, Global};
 
 /// The problems of a typed graph, object by object.
-pub fn problems(alloc: Global, meta: &Meta, graph: &Graph) -> Result<List<Problem>, AllocError>
-    requires { IsTyped meta.now graph.now }
-    ensures { IfOk result (λ problems. problems ≡ spec.problems_of meta.now graph.now) }
+pub fn problems(alloc: Global, meta: &Meta, graph: &ListGraph) -> Result<List<Problem>, AllocError>
+    requires { IsTyped meta.now graph.now.graph }
+    ensures { IfOk result (λ problems. problems ≡ spec.problems_of meta.now graph.now.graph) }
 {
     let outgoing = outgoing_of(alloc, graph)?;
     let containing = containing_of(alloc, meta, graph)?;
     let cycles = cycles_of(alloc, meta, graph, &outgoing)?;
     let mut problems = List::new(alloc);
-    let objects = graph.objects.as_slice();
+    let objects = graph.objects();
     for (i, object) in objects.iter().enumerate() {
         let is_in_itself = is_marked(cycles.as_slice(), i);
         add_problems_at(
@@ -44,19 +44,20 @@ pub fn problems(alloc: Global, meta: &Meta, graph: &Graph) -> Result<List<Proble
 /// Adds the problems of an object, which contains itself or doesn't.
 fn add_problems_at(
     meta: &Meta,
-    graph: &Graph,
+    graph: &ListGraph,
     outgoing: &EdgeIndex,
     containing: &EdgeIndex,
     is_in_itself: bool,
     object: &Object,
     problems: &mut List<Problem>,
 ) -> Result<(), AllocError>
-    requires leave { (n : ℕ) → indexed_edges outgoing.now n ≡ spec.edges_leaving graph.now n }
+    requires leave { (n : ℕ) → indexed_edges outgoing.now n ≡ spec.edges_leaving graph.now.graph n }
     requires contain { (n : ℕ) → indexed_edges containing.now n
-        ≡ filter (λ e. spec.is_containment meta.now e.reference) (spec.edges_entering graph.now n) }
-    requires marked { is_in_itself ≡ spec.is_in_itself meta.now graph.now object.now.number }
+        ≡ filter (λ e. spec.is_containment meta.now e.reference)
+        (spec.edges_entering graph.now.graph n) }
+    requires marked { is_in_itself ≡ spec.is_in_itself meta.now graph.now.graph object.now.number }
     ensures { OnOk result
-        (problems.new ≡ problems.old ++ spec.problems_at meta.now graph.now object.now) }
+        (problems.new ≡ problems.old ++ spec.problems_at meta.now graph.now.graph object.now) }
 {
     add_problems(
         meta,

@@ -1,7 +1,6 @@
 -- What bytes hold that are read to their end: a bundle, and the syntax of its rules, in which
 -- nothing is wrong.
 use Rattle.std.specs.Prelude.{ℕ, ◌≡◌, List, Option, Some, Ok}
-use Rattle.std.specs.Arc.{arc_value}
 use Rattle.std.specs.Str.{chars}
 use Rattle.hs_expr.specs.Verdict.{verdict}
 use Rattle.hs_text.specs.declared.syntax.Syntax.{Syntax}
@@ -38,5 +37,5 @@ pub record IsInput (bytes : List ℕ) (held : Contents) (input : Input) : Type 0
   pub is_built : IsBuilt bytes held input.syntax input.sessions
   pub is_meant : IsMeant held.meta input.syntax.definitions input.rules
   pub same_model : input.rules.meta ≡ held.meta
-  pub same_meta : arc_value input.graph.meta ≡ held.meta
+  pub same_meta : input.graph.meta ≡ held.meta
   pub same_graph : input.graph.graph ≡ held.graph

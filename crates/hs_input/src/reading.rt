@@ -1,7 +1,6 @@
 //! Reading a bundle with its rules and requests.
 
 ghost use Rattle.std.specs.Prelude.{◌≡◌, ℕ, List, IfErr, IfOk, IfSome, Ok, Some, None};
-ghost use Rattle.std.specs.Arc.{arc_value};
 ghost use Rattle.std.specs.Str.{chars};
 ghost use Rattle.hs_expr.specs.Verdict.{verdict};
 ghost use Rattle.hs_text.specs.Parsing.{IsSyntaxOf};
@@ -22,10 +21,9 @@ use hs_expr::{Failure, List, fault_as};
 use hs_faults::RuleFault;
 use hs_json::{Bundle, BundleFault, read_bundle};
 use hs_text::{Syntax, TextFault, parse};
-use hs_types::{ListGraph, Meta, Request, RuleSet};
+use hs_types::{ListGraph, Request, RuleSet};
 use serde_json::Value;
 use std::alloc::Global;
-use std::sync::Arc;
 
 /// What a bundle holds in which nothing is wrong.
 #[derive(Drop)]
@@ -43,7 +41,7 @@ pub struct Input {
 /// Reads what the bytes hold, or says why they are refused.
 pub fn read_input(alloc: Global, bytes: &[u8]) -> Result<Input, Failure<Refusal>>
     ensures read { IfOk result (λ input. (held : Contents) × IsInput bytes.now held input) }
-    ensures sound { IfOk result (λ input. IsSound (arc_value input.graph.meta) input.graph.graph) }
+    ensures sound { IfOk result (λ input. IsSound input.graph.meta input.graph.graph) }
     ensures refused { Tells bytes.now result }
 {
     let Bundle {
@@ -53,7 +51,7 @@ pub fn read_input(alloc: Global, bytes: &[u8]) -> Result<Input, Failure<Refusal>
         journal,
     } = bundle_of(alloc, bytes)?;
     let syntax = syntax_of(alloc, rules.as_str())?;
-    let rules = rules_of(alloc, &graph.meta, &syntax)?;
+    let rules = rules_of(alloc, &graph, &syntax)?;
     let sessions = sessions_built(alloc, &rules, sessions.as_ref(), journal.as_ref())?;
     Ok(Input {
         graph,
@@ -65,8 +63,7 @@ pub fn read_input(alloc: Global, bytes: &[u8]) -> Result<Input, Failure<Refusal>
 
 fn bundle_of(alloc: Global, bytes: &[u8]) -> Result<Bundle, Failure<Refusal>>
     ensures read { IfOk result (λ bundle. IsBundleAnswer bytes.now (Ok (contents bundle))) }
-    ensures sound { IfOk result
-        (λ bundle. IsSound (arc_value bundle.graph.meta) bundle.graph.graph) }
+    ensures sound { IfOk result (λ bundle. IsSound bundle.graph.meta bundle.graph.graph) }
     ensures refused { Tells bytes.now result }
 {
     fault_as(
@@ -97,17 +94,17 @@ fn syntax_of(alloc: Global, text: &str) -> Result<Syntax, Failure<Refusal>>
 }
 
 /// The rules and units that the syntax means, where nothing is wrong in them.
-fn rules_of(alloc: Global, meta: &Arc<Meta>, syntax: &Syntax) -> Result<RuleSet, Failure<Refusal>>
+fn rules_of(alloc: Global, graph: &ListGraph, syntax: &Syntax) -> Result<RuleSet, Failure<Refusal>>
     ensures right { IfOk result
-        (λ set. verdict (faults_of (arc_value meta.now) syntax.now.definitions) ≡ Ok tt) }
-    ensures meant { IfOk result (IsMeant (arc_value meta.now) syntax.now.definitions) }
-    ensures model { IfOk result (λ set. set.meta ≡ arc_value meta.now) }
-    ensures refused { (bytes : List ℕ) (held : Contents) → held.meta ≡ arc_value meta.now
+        (λ set. verdict (faults_of graph.now.meta syntax.now.definitions) ≡ Ok tt) }
+    ensures meant { IfOk result (IsMeant graph.now.meta syntax.now.definitions) }
+    ensures model { IfOk result (λ set. set.meta ≡ graph.now.meta) }
+    ensures refused { (bytes : List ℕ) (held : Contents) → held.meta ≡ graph.now.meta
         → IsBundleAnswer bytes (Ok held) → IsSyntaxOf (chars held.rules) syntax.now
         → Tells bytes result }
 {
     fault_as(
-        check(alloc, meta, syntax),
+        check(alloc, graph.meta(), syntax),
         &|fault: RuleFault| -> Refusal
             ensures { result ≡ BadRule fault }
         { Refusal::BadRule(fault) },

@@ -5,7 +5,7 @@ use Rattle.hs_graph.specs.declared.problem.ProblemKind.{ProblemKind}
 use Rattle.hs_graph.specs.declared.problem.ProblemKind.TheVariants.{Lower, Upper, Containers, Cycle}
 use Rattle.hs_types.specs.declared.meta.Metamodel.{Metamodel}
 use Rattle.hs_json_model.specs.Written.{object_data}
-use Rattle.hs_json.specs.Problems.{count_data, count_members, problem_members}
+use Rattle.hs_json.specs.Problems.{count_data, problem_members}
 
 pub problem_none : (m : Metamodel) (object : List ℕ) (kind : ProblemKind) → has_float (object_data (problem_members m object kind)) ≡ false
 problem_none m object (Lower f) = refl

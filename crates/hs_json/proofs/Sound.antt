@@ -1,10 +1,9 @@
 -- What bundles hold is sound.
-use Rattle.std.proofs.Common.{◌≡◌, [], Option, Some, None, Result, Ok, Err, refl, subst, codes, IfOk}
-use Rattle.std.specs.Arc.{arc_value}
+use Rattle.std.proofs.Common.{◌≡◌, [], Option, Some, None, Result, Ok, Err, refl, subst, codes, IfOk, arith}
 use Rattle.serde_json.specs.Data.{Data}
 use Rattle.serde_json.specs.Find.{get}
 use Rattle.hs_expr.specs.declared.failure.Failure.{Failure}
-use Rattle.hs_expr.specs.Steps.{GivesBy, fault_as}
+use Rattle.hs_expr.specs.Steps.{Gives, GivesBy, fault_as}
 use Rattle.hs_expr.proofs.Chains.{both_give, same_ok, value-from_wide}
 use Rattle.hs_graph.specs.Meaning.{graph_of}
 use Rattle.hs_json_model.specs.Graph.{graph_at}
@@ -14,6 +13,8 @@ use Rattle.hs_types.specs.declared.graph.Graph.{Graph}
 use Rattle.hs_types.specs.declared.meta.Metamodel.{Metamodel}
 use Rattle.hs_types.specs.Metamodel.{IsMeta}
 use Rattle.hs_types.specs.Limits.{IsSmallMeta}
+use Rattle.hs_types.specs.Host.{HasNearNames}
+use Rattle.hs_types.specs.TypedGraph.{IsTyped}
 use Rattle.hs_json.specs.declared.fault.BundleFault.{BundleFault}
 use Rattle.hs_json.specs.declared.fault.BundleFault.TheVariants.{BadBundle}
 use Rattle.hs_json.specs.declared.reading.Bundle.{Bundle}
@@ -46,6 +47,14 @@ contents_sound whole small empty graphs d held e =
     subst (λ (x : bundle.Contents). IsSound x.meta x.graph) (same_ok contents held made refl c.2) graph
 
 pub given_sound : MetaLaw IsMeta → MetaLaw IsSmallMeta → EmptyLaw → GraphLaw → (d : Data) (result : Result Bundle (Failure BundleFault)) → GivesBy bundle.contents result (bundle.contents_of d) →
-    IfOk result (λ held. IsSound (arc_value held.graph.meta) held.graph.graph)
+    IfOk result (λ held. IsSound held.graph.meta held.graph.graph)
 given_sound whole small empty graphs d (Ok held) e = contents_sound whole small empty graphs d (bundle.contents held) e
 given_sound whole small empty graphs d (Err failure) e = tt
+
+-- A graph that is read is typed, and its names are near.
+pub graph_typed : EmptyLaw → GraphLaw → (m : Metamodel) (d : Option Data) (result : Result Graph (Failure BundleFault)) → IsMeta m → IsSmallMeta m → Gives result (fault_as bundle.in_graph (bundle.graph_or_empty m d)) →
+    IfOk result (λ g. IsTyped m g × HasNearNames g)
+graph_typed empty graphs m d (Ok g) is small e =
+    let sound = part_sound empty graphs m d g is small (value-from_wide bundle.in_graph (bundle.graph_or_empty m d) g e) in
+    (sound.is_opening.typed, omega (arith, sound.low_names))
+graph_typed empty graphs m d (Err failure) is small e = tt

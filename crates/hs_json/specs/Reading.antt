@@ -1,6 +1,5 @@
 -- What a bundle holds, or its first fault.
 use Rattle.std.specs.Prelude.{ℕ, ◌≡◌, ◌⊎◌, List, [], ◌∷◌, Option, Some, None, Result, Ok, Err, codes, IsUtf8, option_map}
-use Rattle.std.specs.Arc.{arc_value}
 use Rattle.serde_json.specs.Data.{Data}
 use Rattle.serde_json.specs.Find.{get}
 use Rattle.serde_json.specs.Read.{read}
@@ -76,7 +75,7 @@ contents_of d = do
 -- The contents of this bundle, whose metamodel is in a shared pointer.
 abbrev pub contents : Bundle → Contents
 contents bundle = record {
-  meta = arc_value bundle.graph.meta;
+  meta = bundle.graph.meta;
   graph = bundle.graph.graph;
   rules = bundle.rules;
   sessions = option_map view bundle.sessions;

@@ -6,20 +6,20 @@ ghost use Rattle.serde_json.specs.View.{view};
 ghost use Rattle.hs_graph.specs.Index.{indexed_name};
 ghost use Rattle.hs_graph.specs.Problems.{problems_of};
 ghost use Rattle.hs_json_model.specs.Written.{line_of, name_in, object_data};
-ghost use Rattle.hs_types.specs.TypedGraph.{IsTyped, object_at};
+ghost use Rattle.hs_types.specs.TypedGraph.{IsTyped, object_numbered};
 ghost use Rattle.hs_json.specs.Problems as spec;
 
 use hs_expr::Text;
 use hs_graph::{ObjectIndex, Problem, ProblemKind, name_of, objects_of, problems};
 use hs_json_model::{add_line, class_name};
-use hs_types::{FeatureNo, Graph, Meta};
+use hs_types::{FeatureNo, ListGraph, Meta};
 use serde_json::{Value, json};
 use std::alloc::{AllocError, Global};
 
 /// The problems of a typed graph, a line of JSON for each, and a last one with their count.
-pub fn problems_text(alloc: Global, meta: &Meta, graph: &Graph) -> Result<Text, AllocError>
-    requires { IsTyped meta.now graph.now }
-    ensures { IfOk result (λ text. text ≡ spec.problems_text meta.now graph.now) }
+pub fn problems_text(alloc: Global, meta: &Meta, graph: &ListGraph) -> Result<Text, AllocError>
+    requires { IsTyped meta.now graph.now.graph }
+    ensures { IfOk result (λ text. text ≡ spec.problems_text meta.now graph.now.graph) }
 {
     let problems = problems(alloc, meta, graph)?;
     let objects = objects_of(alloc, graph)?;

@@ -1,7 +1,6 @@
 //! Reading bundles.
 
 ghost use Rattle.std.specs.Prelude.{◌≡◌, [], codes, Ok, IfErr, IfOk, option_map};
-ghost use Rattle.std.specs.Arc.{arc_value};
 ghost use Rattle.serde_json.specs.Errors.{IsMemory};
 ghost use Rattle.serde_json.specs.Find.{get};
 ghost use Rattle.serde_json.specs.View.{view};
@@ -14,6 +13,8 @@ ghost use Rattle.hs_types.specs.declared.meta.Metamodel.{Metamodel};
 ghost use Rattle.hs_json.specs.declared.fault.BundleFault.TheVariants as fault;
 ghost use Rattle.hs_json.specs.Reading as spec;
 ghost use Rattle.hs_json_model.specs.Sound.{IsSound};
+ghost use Rattle.hs_types.specs.Host.{HasNearNames};
+ghost use Rattle.hs_types.specs.TypedGraph.{IsTyped};
 
 use crate::BundleFault;
 use hs_expr::{Failure, List, Text};
@@ -45,7 +46,7 @@ pub struct Bundle {
 pub fn read_bundle(alloc: Global, bytes: &[u8]) -> Result<Bundle, Failure<BundleFault>>
     ensures answers { spec.Answers bytes.now result }
     ensures sound { IfOk result
-        (λ bundle. IsSound (arc_value bundle.graph.meta) bundle.graph.graph) }
+        (λ bundle. IsSound bundle.graph.meta bundle.graph.graph) }
 {
     models_are_sound();
     let value = json_of(alloc, bytes)?;
@@ -88,7 +89,7 @@ fn bundle_of(alloc: Global, value: Value) -> Result<Bundle, Failure<BundleFault>
     let journal = copy_at(&value, "journal")?;
     let sessions = taken_at(value, "sessions");
     Ok(Bundle {
-        graph: ListGraph { meta, graph },
+        graph: ListGraph::new(meta, graph),
         rules,
         sessions,
         journal,
@@ -177,9 +178,12 @@ fn meta_part(alloc: Global, value: &Value) -> Result<Meta, Failure<BundleFault>>
 
 /// The graph, its fault reported from the bundle.
 fn graph_part(alloc: Global, meta: &Meta, value: &Value) -> Result<Graph, Failure<BundleFault>>
-    ensures { Gives result (fault_as spec.in_graph
+    ensures graph { Gives result (fault_as spec.in_graph
         (spec.graph_or_empty meta.now (get (codes "graph") (view value.now)))) }
+    ensures typed { IfOk result (λ graph. IsTyped meta.now graph × HasNearNames graph) }
 {
+    meta.is_metamodel();
+    models_are_sound();
     fault_with(
         graph_at(alloc, meta, value),
         &|fault: Fault<GraphFaultKind>| -> Result<BundleFault, AllocError>

@@ -1,21 +1,21 @@
 -- A graph has no length-filter-le edges than begin at its objects.
 use Rattle.std.proofs.Common.{ℕ, suc, ◌+◌, ◌≤◌, ◌≡◌, ◌||◌, List, [], ◌∷◌, Bool, true, false, cond, map, length, eqb, refl, ap, sym, ◌∙◌, arith, length-append}
 use Rattle.std.proofs.lemmas.Bool.{eqb-true, false≢true}
-use Rattle.std.proofs.lemmas.List.Elements.{All-nil, All-cons, All-weaker}
-use Rattle.std.specs.List.{All, filter, flat_map}
+use Rattle.std.specs.List.{filter, flat_map}
 use Rattle.hs_types.specs.declared.graph.Edge.{Edge}
 use Rattle.hs_types.specs.declared.graph.Graph.{Graph}
 use Rattle.hs_types.specs.declared.graph.Object.{Object}
 use Rattle.hs_types.specs.declared.meta.Metamodel.{Metamodel}
-use Rattle.hs_expr.specs.Lists.{Differ, Rise, has}
+use Rattle.hs_expr.specs.Lists.{Differ, has}
 use Rattle.hs_types.specs.Metamodel.{IsMeta, features_of}
 use Rattle.hs_types.specs.TypedGraph.{IsTyped}
 use Rattle.std.proofs.lemmas.List.{length-map}
-use Rattle.hs_expr.proofs.Lists.{Differ-apart, below_differs, length-filter-le}
+use Rattle.hs_expr.proofs.Lists.{Differ-apart, length-filter-le}
 use Rattle.hs_json_model.specs.Renumbered.{link_between, links_at, links_by_place}
 use Rattle.hs_graph.specs.Problems.{edges_leaving}
 use Rattle.hs_json_model.proofs.NamesBack.{name_at, names_differ}
 use Rattle.hs_expr.proofs.Keys.{differ-unmapped}
+use Rattle.hs_types.proofs.Keyed.{rise_differs}
 
 -- Those that pass the one test, and those that pass the other, where none passes both.
 split : {A : Type 0} (p q : A → Bool) (xs : List A) → ((x : A) → p x ≡ true → q x ≡ false) → length (filter p xs) + length (filter q xs) ≡ length (filter (λ x. p x || q x) xs)
@@ -45,15 +45,6 @@ by_key key h xs (n ∷ ns) d =
     ∙ ap (λ k. k + length (flat_map (λ n. map (h n) (filter (λ x. eqb (key x) n) xs)) ns)) (length-map (filter (λ x. eqb (key x) n) xs) (h n))
     ∙ ap (λ k. length (filter (λ x. eqb (key x) n) xs) + k) (by_key key h xs ns d.1)
     ∙ split (λ x. eqb (key x) n) (λ x. has ns (key x)) xs (none_again key n ns d)
-
--- Numbers that rise differ.
-pub rise_above : (low : ℕ) (ns : List ℕ) (high : ℕ) → Rise low ns high → All (λ k. low ≤ k) ns
-rise_above low [] high r = All-nil (λ k. low ≤ k)
-rise_above low (n ∷ ns) high r = All-cons (λ k. low ≤ k) n ns r.0 (All-weaker (λ k. n + 1 ≤ k) (λ k. low ≤ k) (λ k h. omega (arith, h, r.0)) ns (rise_above (n + 1) ns high r.1))
-
-pub rise_differs : (low : ℕ) (ns : List ℕ) (high : ℕ) → Rise low ns high → Differ ns
-rise_differs low [] high r = tt
-rise_differs low (n ∷ ns) high r = (All-weaker (λ k. n + 1 ≤ k) (λ k. n ≡ k → ⊥) (λ k h. below_differs n k (omega (arith, h))) ns (rise_above (n + 1) ns high r.1), rise_differs (n + 1) ns high r.1)
 
 object_counted : (m : Metamodel) (g : Graph) (place : ℕ) (o : Object) → IsMeta m → length (links_at m g place o) ≤ length (edges_leaving g o.number)
 object_counted m g place o is =

@@ -11,7 +11,7 @@ use Rattle.hs_types.specs.declared.meta.Class.{Class}
 use Rattle.hs_types.specs.declared.meta.Metamodel.{Metamodel}
 use Rattle.hs_expr.specs.Lists.{Differ, has, same_text}
 use Rattle.hs_types.specs.Metamodel.{Conforms, IsConcrete, IsMeta, class_at, features_of, target_of}
-use Rattle.hs_types.specs.TypedGraph.{CanJoin, IsOf, IsTyped, object_at}
+use Rattle.hs_types.specs.TypedGraph.{CanJoin, IsOf, IsTyped, object_numbered}
 use Rattle.hs_expr.proofs.Lists.{All-by_has, All-find, All-of_map, flat_map-same}
 use Rattle.hs_graph.specs.declared.edges.Link.{Link}
 use Rattle.hs_graph.specs.Links as links
@@ -73,17 +73,17 @@ place_back os t o d e = rw (first_back os t o d e, length-map os (λ (o : Object
 -- ---- edges
 
 -- Where an edge leads.
-pub target_there : (m : Metamodel) (g : Graph) (e : Edge) → CanJoin m g e.source e.reference e.target → (o : Object) × (object_at g e.target ≡ Some o)
+pub target_there : (m : Metamodel) (g : Graph) (e : Edge) → CanJoin m g e.source e.reference e.target → (o : Object) × (object_numbered g e.target ≡ Some o)
 target_there m g e join = go (target_of m e.reference) join.1
   where
-    at_number : (class : ℕ) → IsOf m g class e.target → (o : Object) × (object_at g e.target ≡ Some o)
-    at_number class is = there (object_at g e.target) refl
+    at_number : (class : ℕ) → IsOf m g class e.target → (o : Object) × (object_numbered g e.target ≡ Some o)
+    at_number class is = there (object_numbered g e.target) refl
       where
-        there : (o : Option Object) → object_at g e.target ≡ o → (o : Object) × (object_at g e.target ≡ Some o)
+        there : (o : Option Object) → object_numbered g e.target ≡ o → (o : Object) × (object_numbered g e.target ≡ Some o)
         there None at = absurd (subst (λ (o : Option Object). IsSomeAnd o (λ object. Conforms m object.class class)) at is)
         there (Some o) at = (o, at)
 
-    go : (o : Option ℕ) → IsSomeAnd o (λ class. IsOf m g class e.target) → (o : Object) × (object_at g e.target ≡ Some o)
+    go : (o : Option ℕ) → IsSomeAnd o (λ class. IsOf m g class e.target) → (o : Object) × (object_numbered g e.target ≡ Some o)
     go None is = absurd is
     go (Some class) is = at_number class is
 

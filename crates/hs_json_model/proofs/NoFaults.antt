@@ -15,7 +15,7 @@ use Rattle.hs_types.specs.declared.meta.Feature.{Feature}
 use Rattle.hs_types.specs.declared.meta.Metamodel.{Metamodel}
 use Rattle.hs_expr.specs.Lists.{has, same_text}
 use Rattle.hs_types.specs.Metamodel.{Conforms, IsConcrete, IsMeta, attributes_of, class_at, feature_at, features_of, fits, is_attribute, target_of, type_of, type_of_kind}
-use Rattle.hs_types.specs.TypedGraph.{CanJoin, IsOf, IsTyped, object_at}
+use Rattle.hs_types.specs.TypedGraph.{CanJoin, IsOf, IsTyped, object_numbered}
 use Rattle.hs_expr.proofs.Lists.{All-by_has, All-kept, All-of_map}
 use Rattle.hs_graph.specs.declared.edges.Link.{Link}
 use Rattle.hs_graph.specs.declared.fault.GraphPlace.{GraphPlace}
@@ -180,7 +180,7 @@ leads : (m : Metamodel) (classes : List ℕ) (f t c class : ℕ) → slice_get c
 leads m classes f t c class at target conform = rw (at, target) (conforms_from m c class conform)
 
 -- The class that the reference leads to, to which the target's conforms.
-join_conforms : (m : Metamodel) (g : Graph) (e : Edge) (o : Object) → CanJoin m g e.source e.reference e.target → object_at g e.target ≡ Some o → (class : ℕ) × (target_of m e.reference ≡ Some class) × Conforms m o.class class
+join_conforms : (m : Metamodel) (g : Graph) (e : Edge) (o : Object) → CanJoin m g e.source e.reference e.target → object_numbered g e.target ≡ Some o → (class : ℕ) × (target_of m e.reference ≡ Some class) × Conforms m o.class class
 join_conforms m g e o join at = go (target_of m e.reference) refl join.1
   where
     go : (t : Option ℕ) → target_of m e.reference ≡ t → IsSomeAnd t (λ class. IsOf m g class e.target) → (class : ℕ) × (target_of m e.reference ≡ Some class) × Conforms m o.class class
@@ -199,7 +199,7 @@ edge_fine m g f p e typed h =
     ap (reach_faults m (map (λ (o : Object). o.class) g.objects) f p) (ap (place_of (map (λ (o : Object). o.name) g.objects)) name ∙ place_back g.objects e.target o typed.names_differ there.1 ∙ spot.1)
     ∙ fine _ _ (not_true (leads_to m (map (λ (o : Object). o.class) g.objects) f t) (leads m (map (λ (o : Object). o.class) g.objects) f t o.class to.0 (slice_get-map (λ (o : Object). o.class) g.objects t ∙ ap (option_map (λ (o : Object). o.class)) spot.0) (ap (target_of m) (sym h.0) ∙ to.1) to.2))
   where
-    name_of : (o : Object) → object_at g e.target ≡ Some o → name_in g e.target ≡ o.name
+    name_of : (o : Object) → object_numbered g e.target ≡ Some o → name_in g e.target ≡ o.name
     name_of o at = ap (λ (o : Option Object). unwrap_or (option_map (λ (o : Object). o.name) o) []) at
 
 edges_fine : (m : Metamodel) (g : Graph) (f i r : ℕ) (es : List Edge) → IsTyped m g → All (λ (e : Edge). (e.reference ≡ f) × Joins m g e) es →

@@ -12,7 +12,7 @@ use Rattle.hs_types.specs.declared.graph.Object.{Object}
 use Rattle.hs_types.specs.declared.meta.Metamodel.{Metamodel}
 use Rattle.hs_expr.specs.Lists.{Differ, EachPair, Rise, has}
 use Rattle.hs_types.specs.Metamodel.{IsMeta, features_of}
-use Rattle.hs_types.specs.TypedGraph.{EdgeBefore, IsOpening, IsTyped, Stands, hash_name, object_at}
+use Rattle.hs_types.specs.TypedGraph.{EdgeBefore, IsOpening, IsTyped, Stands, hash_name, object_numbered}
 use Rattle.hs_expr.proofs.Lists.{All-kept, EachPair-filter, EachPair-known, EachPair-weaker, Rise-at, find-passes, flat_map-same, has-here, has-later, map-append}
 use Rattle.hs_graph.specs.declared.edges.Link.{Link}
 use Rattle.hs_graph.specs.Meaning as meaning
@@ -21,7 +21,7 @@ use Rattle.std.proofs.lemmas.List.{length-map}
 use Rattle.hs_json_model.specs.Renumbered.{edges_by, link_between, links_at, links_by_place, objects_by_place, place_in, graph_by_place}
 use Rattle.hs_graph.specs.Problems.{edges_leaving}
 use Rattle.hs_json_model.proofs.NamesBack.{name_at, names_differ}
-use Rattle.hs_json_model.proofs.Counted.{rise_above, rise_differs}
+use Rattle.hs_types.proofs.Keyed.{rise_above, rise_differs}
 use Rattle.hs_json_model.proofs.Grouped.{grouped}
 use Rattle.hs_json_model.proofs.LinksBack.{Joins, target_there}
 use Rattle.hs_json_model.proofs.NoFaults.{place_found}
@@ -50,7 +50,7 @@ number_at n (suc i) (x ∷ xs) o e at =
     number_at (n + 1) i xs o (tail_same x.number n (map (λ (o : Object). o.number) xs) (range_with_len (n + 1) (length xs)) e) at ∙ (let later : n + 1 + i ≡ n + suc i = omega arith in later)
 
 -- The place of an object is its number.
-place_same : (g : Graph) (t : ℕ) (o : Object) → map (λ (o : Object). o.number) g.objects ≡ range_with_len 0 (length g.objects) → object_at g t ≡ Some o → place_in g t ≡ t
+place_same : (g : Graph) (t : ℕ) (o : Object) → map (λ (o : Object). o.number) g.objects ≡ range_with_len 0 (length g.objects) → object_numbered g t ≡ Some o → place_in g t ≡ t
 place_same g t o e at =
     let spot = place_found (λ (o : Object). eqb o.number t) g.objects o at in
     let p = position_or_len (λ (o : Object). eqb o.number t) g.objects in
@@ -106,7 +106,7 @@ Leaves m g n e = (e.source ≡ n) × Joins m g e
 leaving : (m : Metamodel) (g : Graph) (n : ℕ) → IsTyped m g → All (Leaves m g n) (edges_leaving g n)
 leaving m g n typed = All-kept (Joins m g) (Leaves m g n) (λ (e : Edge). eqb e.source n) g.edges (λ e s j. (eqb-true e.source n s, j)) typed.edges_fit
 
-stands_at : (g : Graph) (P : ℕ → Type 0) (n : ℕ) (o : Object) → object_at g n ≡ Some o → Stands g P n → P o.class
+stands_at : (g : Graph) (P : ℕ → Type 0) (n : ℕ) (o : Object) → object_numbered g n ≡ Some o → Stands g P n → P o.class
 stands_at g P n o at is = subst (λ (x : Option Object). IsSomeAnd x (λ object. P object.class)) at is
 
 link_same : (m : Metamodel) (g : Graph) (n f : ℕ) (es : List Edge) → IsOpening m g → All (λ (e : Edge). (e.reference ≡ f) × Leaves m g n e) es → map (link_between g n f) es ≡ map as_link es
@@ -122,7 +122,7 @@ link_same m g n f (e ∷ es) is all =
     link s r t = record { source = s; reference = r; target = t }
 
 -- The edges from an object are in the order of its class's features.
-object_same : (m : Metamodel) (g : Graph) (o : Object) → IsMeta m → IsOpening m g → object_at g o.number ≡ Some o → links_at m g o.number o ≡ map as_link (edges_leaving g o.number)
+object_same : (m : Metamodel) (g : Graph) (o : Object) → IsMeta m → IsOpening m g → object_numbered g o.number ≡ Some o → links_at m g o.number o ≡ map as_link (edges_leaving g o.number)
 object_same m g o meta is at =
     flat_map-same (λ f. map (link_between g o.number f) (edges_by es f)) (λ f. map as_link (edges_by es f)) fs
     (λ i d h. link_same m g o.number _ (edges_by es _) is (All-kept (Leaves m g o.number) (λ (e : Edge). (e.reference ≡ _) × Leaves m g o.number e) (λ (e : Edge). eqb e.reference _) es (λ e s l. (eqb-true e.reference _ s, l)) leave))
@@ -155,14 +155,14 @@ object_same m g o meta is at =
         stands_at g (λ c. position_or_len (eqb e.reference) (features_of m c) ≤ position_or_len (eqb f.reference) (features_of m c)) o.number o at
         (subst (Stands g (λ c. position_or_len (eqb e.reference) (features_of m c) ≤ position_or_len (eqb f.reference) (features_of m c))) l.0 h.1)
 
-objects_same : (m : Metamodel) (g : Graph) (n : ℕ) (os : List Object) → IsMeta m → IsOpening m g → map (λ (o : Object). o.number) os ≡ range_with_len n (length os) → All (λ (o : Object). object_at g o.number ≡ Some o) os →
+objects_same : (m : Metamodel) (g : Graph) (n : ℕ) (os : List Object) → IsMeta m → IsOpening m g → map (λ (o : Object). o.number) os ≡ range_with_len n (length os) → All (λ (o : Object). object_numbered g o.number ≡ Some o) os →
     links_by_place m g n os ≡ map as_link (flat_map (edges_leaving g) (map (λ (o : Object). o.number) os))
 objects_same m g n [] meta is e all = refl
 objects_same m g n (o ∷ os) meta is e all =
     let here : o.number ≡ n = head_same o.number n (map (λ (o : Object). o.number) os) (range_with_len (n + 1) (length os)) e in
-    ap (λ (ls : List Link). ls ++ links_by_place m g (n + 1) os) (ap (λ (k : ℕ). links_at m g k o) (sym here) ∙ object_same m g o meta is (All-head (λ (o : Object). object_at g o.number ≡ Some o) o os all))
+    ap (λ (ls : List Link). ls ++ links_by_place m g (n + 1) os) (ap (λ (k : ℕ). links_at m g k o) (sym here) ∙ object_same m g o meta is (All-head (λ (o : Object). object_numbered g o.number ≡ Some o) o os all))
     ∙ ap (λ (ls : List Link). map as_link (edges_leaving g o.number) ++ ls)
-    (objects_same m g (n + 1) os meta is (tail_same o.number n (map (λ (o : Object). o.number) os) (range_with_len (n + 1) (length os)) e) (All-tail (λ (o : Object). object_at g o.number ≡ Some o) o os all))
+    (objects_same m g (n + 1) os meta is (tail_same o.number n (map (λ (o : Object). o.number) os) (range_with_len (n + 1) (length os)) e) (All-tail (λ (o : Object). object_numbered g o.number ≡ Some o) o os all))
     ∙ sym (map-append as_link (edges_leaving g o.number) (flat_map (edges_leaving g) (map (λ (o : Object). o.number) os)))
 
 risen : (low : ℕ) (ns : List ℕ) (high : ℕ) → Rise low ns high → EachPair (λ n k. k ≤ n → ⊥) ns
@@ -184,7 +184,7 @@ links_same : (m : Metamodel) (g : Graph) → IsMeta m → IsOpening m g → link
 links_same m g meta is =
     let numbers = map (λ (o : Object). o.number) g.objects in
     objects_same m g 0 g.objects meta is is.objects_numbered
-    (All-weaker (λ (o : Object). (0 ≤ o.number) × (object_at g o.number ≡ Some o)) (λ (o : Object). object_at g o.number ≡ Some o) (λ o h. h.1) g.objects (Rise-at (λ (o : Object). o.number) 0 g.objects g.next_object is.typed.objects_rise))
+    (All-weaker (λ (o : Object). (0 ≤ o.number) × (object_numbered g o.number ≡ Some o)) (λ (o : Object). object_numbered g o.number ≡ Some o) (λ o h. h.1) g.objects (Rise-at (λ (o : Object). o.number) 0 g.objects g.next_object is.typed.objects_rise))
     ∙ ap (map as_link) (grouped (λ a b. a ≤ b) (λ (e : Edge). e.source) numbers g.edges (rise_differs 0 numbers g.next_object is.typed.objects_rise) (risen 0 numbers g.next_object is.typed.objects_rise)
     (All-weaker (Joins m g) (λ (e : Edge). has numbers e.source ≡ true) (λ e j. found_has g.objects e.source (λ object. has (features_of m object.class) e.reference ≡ true) j.0) g.edges is.typed.edges_fit)
     (EachPair-weaker (EdgeBefore m g) (λ e f. e.source ≤ f.source) before g.edges is.edges_in_order))

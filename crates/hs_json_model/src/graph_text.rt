@@ -14,19 +14,20 @@ ghost use Rattle.hs_json_model.specs.ByName.{entry_members};
 ghost use Rattle.hs_json_model.specs.Written.{attrs_data, feature_name, graph_data, list_data, object_data, object_line, object_members, reference_member, refs_members, targets_of, value_data, with_members};
 ghost use Rattle.hs_graph.specs.Problems.{edges_leaving};
 ghost use Rattle.hs_types.specs.Metamodel.{features_of};
-ghost use Rattle.hs_types.specs.TypedGraph.{object_at};
+ghost use Rattle.hs_types.specs.declared.graph.Graph.{Graph};
+ghost use Rattle.hs_types.specs.TypedGraph.{object_numbered};
 
 use crate::values::{class_name, feature_name};
 use hs_expr::{List, Text, Value as Datum};
 use hs_graph::{EdgeIndex, ObjectIndex, edges_of, name_of, objects_of, outgoing_of};
-use hs_types::{ClassNo, Edge, FeatureNo, Graph, Meta, Object, Slot};
+use hs_types::{ClassNo, Edge, FeatureNo, ListGraph, Meta, Object, Slot};
 use json::Writer;
 use std::alloc::{AllocError, Global};
 use std::collections::BTreeMap;
 
 /// The compact text of a graph.
-pub fn write_graph(alloc: Global, meta: &Meta, graph: &Graph) -> Result<Text, AllocError>
-    ensures { IfOk result (λ text. text ≡ compact_text (graph_data meta.now graph.now)) }
+pub fn write_graph(alloc: Global, meta: &Meta, graph: &ListGraph) -> Result<Text, AllocError>
+    ensures { IfOk result (λ text. text ≡ compact_text (graph_data meta.now graph.now.graph)) }
 {
     let text = with_graph(alloc, String::new(alloc), meta, graph)?;
     Ok(Text::from_string(text))
@@ -37,10 +38,10 @@ pub fn with_graph(
     alloc: Global,
     text: String,
     meta: &Meta,
-    graph: &Graph,
+    graph: &ListGraph,
 ) -> Result<String, AllocError>
     ensures { IfOk result (λ written. string_bytes written
-        ≡ string_bytes text ++ compact_text (graph_data meta.now graph.now)) }
+        ≡ string_bytes text ++ compact_text (graph_data meta.now graph.now.graph)) }
 {
     let mut out = Writer::new(text.into_bytes());
     add_graph(alloc, &mut out, meta, graph)?;
@@ -56,9 +57,15 @@ fn text_of(out: Writer) -> String
 }
 
 /// Adds a graph.
-fn add_graph(alloc: Global, out: &mut Writer, meta: &Meta, graph: &Graph) -> Result<(), AllocError>
+fn add_graph(
+    alloc: Global,
+    out: &mut Writer,
+    meta: &Meta,
+    graph: &ListGraph,
+) -> Result<(), AllocError>
     ensures ok { OnOk result
-        (out.new.tokens ≡ out.old.tokens ++ json_tokens (outline (graph_data meta.now graph.now))) }
+        (out.new.tokens
+        ≡ out.old.tokens ++ json_tokens (outline (graph_data meta.now graph.now.graph))) }
     ensures before { out.new.before ≡ out.old.before }
 {
     out.begin_object()?;
@@ -72,16 +79,17 @@ fn add_objects(
     alloc: Global,
     out: &mut Writer,
     meta: &Meta,
-    graph: &Graph,
+    graph: &ListGraph,
 ) -> Result<(), AllocError>
     ensures ok { OnOk result (out.new.tokens ≡ out.old.tokens
-        ++ json_tokens (outline (list_data (object_line meta.now graph.now) graph.now.objects))) }
+        ++ json_tokens (outline
+        (list_data (object_line meta.now graph.now.graph) graph.now.graph.objects))) }
     ensures before { out.new.before ≡ out.old.before }
 {
     let objects = objects_of(alloc, graph)?;
     let outgoing = outgoing_of(alloc, graph)?;
     out.begin_array()?;
-    for object in graph.objects.as_slice() {
+    for object in graph.objects() {
         add_object(alloc, out, meta, &objects, &outgoing, object)?;
     }
     out.end_array()
@@ -97,7 +105,7 @@ fn add_object(
     object: &Object,
 ) -> Result<(), AllocError>
     ensures ok { (g : Graph)
-        → ((n : ℕ) → option_map (λ o. o.now) (indexed_object objects.now n) ≡ object_at g n)
+        → ((n : ℕ) → option_map (λ o. o.now) (indexed_object objects.now n) ≡ object_numbered g n)
         → ((n : ℕ) → indexed_edges outgoing.now n ≡ edges_leaving g n)
         → OnOk result (out.new.tokens
         ≡ out.old.tokens ++ json_tokens (outline (object_line meta.now g object.now))) }

@@ -10,7 +10,7 @@ use Rattle.hs_types.specs.declared.meta.Class.{Class}
 use Rattle.hs_types.specs.declared.meta.Metamodel.{Metamodel}
 use Rattle.hs_expr.specs.Lists.{has, each_once}
 use Rattle.hs_types.specs.Metamodel.{Conforms, itself, above, HasSuper, IsMeta, attributes_of, class_at, features_of, owned_by, type_of}
-use Rattle.hs_types.specs.TypedGraph.{IsOf, Stands, object_at}
+use Rattle.hs_types.specs.TypedGraph.{IsOf, Stands, object_numbered}
 use Rattle.hs_expr.proofs.Lists.{has-append_left, has-append_right, has-here, has-later, has_cases}
 
 pub Conforms-trans : (m : Metamodel) (a b c : ℕ) → Conforms m a b → Conforms m b c → Conforms m a c
@@ -71,7 +71,7 @@ attribute-down m a w c d k h = let was = has-filter (λ f. is_some (type_of m f)
 
 -- What goes down along conformance holds at each object of the class.
 pub Stands-down : (m : Metamodel) (g : Graph) (P : ℕ → Type 0) (class n : ℕ) → GoesDown m P → P class → IsOf m g class n → Stands g P n
-Stands-down m g P class n down p h = go (object_at g n) h
+Stands-down m g P class n down p h = go (object_numbered g n) h
   where
     go : (o : Option Object) → IsSomeAnd o (λ object. Conforms m object.class class) → IsSomeAnd o (λ object. P object.class)
     go None h = h

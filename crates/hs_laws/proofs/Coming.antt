@@ -9,19 +9,18 @@ use Rattle.hs_types.specs.declared.graph.Object.{Object}
 use Rattle.hs_types.specs.declared.graph.Slot.{Slot}
 use Rattle.hs_types.specs.declared.meta.Metamodel.{Metamodel}
 use Rattle.hs_types.specs.declared.plan.MadeEdge.{MadeEdge}
-use Rattle.hs_types.specs.declared.plan.MadeObject.{MadeObject}
+use Rattle.hs_types.specs.Plan.{MadeObject, Plan, Fits}
 use Rattle.hs_types.specs.declared.plan.Write.{Write}
 use Rattle.hs_types.specs.declared.rule.SlotKind.{SlotKind}
 use Rattle.hs_types.specs.declared.rule.SlotKind.TheVariants.{Attribute, Link, Container}
 use Rattle.hs_expr.specs.Lists.{EachPair, has}
 use Rattle.hs_types.specs.Pattern.{is_kind}
-use Rattle.hs_types.specs.Plan.{Plan, Fits}
 use Rattle.hs_types.specs.Step.{is_to, new_edges, new_objects, number_of, object_after, slot_after, step}
-use Rattle.hs_types.specs.TypedGraph.{IsTyped, edge_at, hash_name, object_at, value_at, value_in}
+use Rattle.hs_types.specs.TypedGraph.{IsTyped, edge_numbered, hash_name, object_numbered, value_at, value_in}
 use Rattle.hs_expr.proofs.Items.{All-at}
 use Rattle.hs_expr.proofs.Lists.{Rise_past, find-passes}
-use Rattle.hs_laws.proofs.Kept.{is_kind-itself, is_kind-same}
-use Rattle.hs_laws.proofs.Lookups.{edge_at-step, object_at-step}
+use Rattle.hs_types.proofs.SlotKinds.{is_kind-itself, is_kind-same}
+use Rattle.hs_types.proofs.AfterStep.{edge_numbered-step, object_numbered-step}
 use Rattle.hs_laws.proofs.Stepped.{object-stays}
 
 -- A made object with this number and the name of this hash number.
@@ -58,20 +57,20 @@ among_edges next n (suc i) (x ∷ es) e h =
     rw differs (subst (λ (j : ℕ). find (λ (y : Edge). eqb y.number j) (new_edges next (n + 1) es) ≡ Some (edge_made next j e)) number (among_edges next (n + 1) i es e h))
 
 pub objects-come : (m : Metamodel) (g : Graph) (p : Plan) (i : ℕ) (made : MadeObject) → IsTyped m g → slice_get p.make_objects i ≡ Some made →
-    object_at (step g p) (g.next_object + i) ≡ Some (record { number = g.next_object + i; name = hash_name (g.next_name + i); class = made.class; slots = made.slots })
+    object_numbered (step g p) (g.next_object + i) ≡ Some (record { number = g.next_object + i; name = hash_name (g.next_name + i); class = made.class; slots = made.slots })
 objects-come m g p i made t at =
     let n : ℕ = g.next_object + i in
-    let none : object_at g n ≡ None = Rise_past (λ o. o.number) 0 g.objects g.next_object n t.objects_rise (omega arith) in
+    let none : object_numbered g n ≡ None = Rise_past (λ o. o.number) 0 g.objects g.next_object n t.objects_rise (omega arith) in
     let new = among_objects g.next_object g.next_name i p.make_objects made at in
-    subst (λ (o : Option Object). o ≡ Some (object_made n (g.next_name + i) made)) (sym (object_at-step g p n)) (elim (cases_Bool (has p.drop_objects n)) [ inl d ↦ rw d new | inr d ↦ rw (d, none) new ])
+    subst (λ (o : Option Object). o ≡ Some (object_made n (g.next_name + i) made)) (sym (object_numbered-step g p n)) (elim (cases_Bool (has p.drop_objects n)) [ inl d ↦ rw d new | inr d ↦ rw (d, none) new ])
 
 pub edges-come : (m : Metamodel) (g : Graph) (p : Plan) (i : ℕ) (made : MadeEdge) → IsTyped m g → slice_get p.make_edges i ≡ Some made →
-    edge_at (step g p) (g.next_edge + i) ≡ Some (record { number = g.next_edge + i; source = number_of g.next_object made.source; reference = made.reference; target = number_of g.next_object made.target })
+    edge_numbered (step g p) (g.next_edge + i) ≡ Some (record { number = g.next_edge + i; source = number_of g.next_object made.source; reference = made.reference; target = number_of g.next_object made.target })
 edges-come m g p i made t at =
     let n : ℕ = g.next_edge + i in
-    let none : edge_at g n ≡ None = Rise_past (λ e. e.number) 0 g.edges g.next_edge n t.edges_rise (omega arith) in
+    let none : edge_numbered g n ≡ None = Rise_past (λ e. e.number) 0 g.edges g.next_edge n t.edges_rise (omega arith) in
     let new = among_edges g.next_object g.next_edge i p.make_edges made at in
-    subst (λ (e : Option Edge). e ≡ Some (edge_made g.next_object n made)) (sym (edge_at-step g p n)) (elim (cases_Bool (has p.drop_edges n)) [ inl d ↦ rw d new | inr d ↦ rw (d, none) new ])
+    subst (λ (e : Option Edge). e ≡ Some (edge_made g.next_object n made)) (sym (edge_numbered-step g p n)) (elim (cases_Bool (has p.drop_edges n)) [ inl d ↦ rw d new | inr d ↦ rw (d, none) new ])
 
 -- The first write to a slot is the only one.
 found_write : (ws : List Write) (k : ℕ) (w : Write) → EachPair (λ u v. (u.object ≡ v.object) × (u.slot ≡ v.slot) → ⊥) ws → slice_get ws k ≡ Some w → find (is_to w.object w.slot) ws ≡ Some w
@@ -94,17 +93,17 @@ written_in ws n a w (s ∷ ss) h there = elim (cases_Bool (eqb s.attribute a)) [
   | inr q ↦ rw q (written_in ws n a w ss h (rw q at there))
 ]
 
-values_at : (g : Graph) (p : Plan) (k : ℕ) (w : Write) (slot : SlotKind) (o : Option Object) → object_at g w.object ≡ o → has p.drop_objects w.object ≡ false → find (is_to w.object slot) p.writes ≡ Some w →
+values_at : (g : Graph) (p : Plan) (k : ℕ) (w : Write) (slot : SlotKind) (o : Option Object) → object_numbered g w.object ≡ o → has p.drop_objects w.object ≡ false → find (is_to w.object slot) p.writes ≡ Some w →
     IsSome (value_at g w.object slot) → value_at (step g p) w.object slot ≡ Some w.value
 values_at g p k w (Link r) o e d h there = absurd (false≢true there)
 values_at g p k w Container o e d h there = absurd (false≢true there)
 values_at g p k w (Attribute a) None e d h there = absurd (false≢true (rw e at there))
 values_at g p k w (Attribute a) (Some x) e d h there =
-    let at : object_at (step g p) w.object ≡ Some (object_after p.writes x) = object-stays g p w.object x d e in
+    let at : object_numbered (step g p) w.object ≡ Some (object_after p.writes x) = object-stays g p w.object x d e in
     let same : x.number ≡ w.object = eqb-true x.number w.object (find-passes (λ o. eqb o.number w.object) g.objects x e) in
     rw at (subst (λ (n : ℕ). value_in a (map (slot_after p.writes n) x.slots) ≡ Some w.value) (sym same) (written_in p.writes w.object a w x.slots h (rw e at there)))
 
 pub values-come : (m : Metamodel) (g : Graph) (p : Plan) (k : ℕ) (w : Write) → Fits m g p → slice_get p.writes k ≡ Some w → value_at (step g p) w.object w.slot ≡ Some w.value
 values-come m g p k w f at =
     let stands = All-at (λ (v : Write). IsSome (value_at g v.object v.slot) × (has p.drop_objects v.object ≡ false)) p.writes k w f.slots_stand at in
-    values_at g p k w w.slot (object_at g w.object) refl stands.1 (found_write p.writes k w f.slots_differ at) stands.0
+    values_at g p k w w.slot (object_numbered g w.object) refl stands.1 (found_write p.writes k w f.slots_differ at) stands.0

@@ -32,23 +32,24 @@ use Rattle.hs_types.specs.Pattern.{is_drop, is_keep, is_kind, is_left, is_make, 
 use Rattle.hs_types.specs.Plan.{Fits, copy_writes, plan_of, writes_of}
 use Rattle.hs_types.specs.PlainMatch.{Extends, IsImage, image, kernel_of}
 use Rattle.hs_types.specs.RuleForm.{EndFits, IsRule, SetFits, SetOnce, has_slot, is_among, reads_in, scope_of, slot_of_set, slots_read, slots_set}
-use Rattle.hs_types.specs.TypedGraph.{AreSlotsOf, IsTyped, Stands, edge_at, object_at, value_at, value_in}
+use Rattle.hs_types.specs.TypedGraph.{AreSlotsOf, IsTyped, Stands, edge_numbered, object_numbered, value_at, value_in}
 use Rattle.hs_types.specs.ValidMatch.{IsValid}
 use Rattle.hs_laws.proofs.Classes.{Stands-down, attribute-down}
 use Rattle.hs_laws.proofs.Images.{FitsNode, IsLeft, IsLeft-from, image-among, image-at, image-behind, image-injective, joined}
 use Rattle.hs_types.proofs.Lookups.{object_there}
-use Rattle.hs_laws.proofs.Kept.{has_slot-all, is_kind-itself}
+use Rattle.hs_types.proofs.SlotKinds.{is_kind-itself}
+use Rattle.hs_laws.proofs.Kept.{has_slot-all}
 use Rattle.hs_expr.proofs.Lists.{All-beside, All-both, All-filter_map, All-find, All-flat_map, All-kept, All-of_filter, All-of_map, All-one, AllZip-right, Differ-across, Differ-beside, Differ-not, EachPair-append, EachPair-filter, EachPair-filter_map, EachPair-flat_map, EachPair-known, EachPair-rest, EachPair-weaker, beside-has, has_cases, has-here, has-later, has_not, slice_get-last}
 use Rattle.hs_laws.proofs.Planned.{left_or_made, not_dropped, plan-carries}
 use Rattle.hs_laws.proofs.Staying.{CopyIs, CopyStays, copies_are, copies_stay, kernel_stays}
-use Rattle.hs_laws.proofs.Typed.{Carries}
+use Rattle.hs_types.proofs.TypedStep.{Carries}
 
 -- What each image is, each dropped one is.
-nodes_stand : (m : Metamodel) (g : Graph) (nodes : List PatternNode) (images : List ℕ) → AllZip (FitsNode m g) (left_nodes nodes) images → All (λ n. IsSome (object_at g n)) images
-nodes_stand m g nodes images z = AllZip-right (FitsNode m g) (λ n. IsSome (object_at g n)) (λ node n k. let o = object_there m g node.class n k in ap is_some o.1) (left_nodes nodes) images z
+nodes_stand : (m : Metamodel) (g : Graph) (nodes : List PatternNode) (images : List ℕ) → AllZip (FitsNode m g) (left_nodes nodes) images → All (λ n. IsSome (object_numbered g n)) images
+nodes_stand m g nodes images z = AllZip-right (FitsNode m g) (λ n. IsSome (object_numbered g n)) (λ node n k. let o = object_there m g node.class n k in ap is_some o.1) (left_nodes nodes) images z
 
-edges_stand : (g : Graph) (at : ℕ → ℕ) (edges : List PatternEdge) (images : List ℕ) → AllZip (IsImage g at) (left_edges edges) images → All (λ n. IsSome (edge_at g n)) images
-edges_stand g at edges images z = AllZip-right (IsImage g at) (λ n. IsSome (edge_at g n)) (λ edge n k. ap is_some k) (left_edges edges) images z
+edges_stand : (g : Graph) (at : ℕ → ℕ) (edges : List PatternEdge) (images : List ℕ) → AllZip (IsImage g at) (left_edges edges) images → All (λ n. IsSome (edge_numbered g n)) images
+edges_stand g at edges images z = AllZip-right (IsImage g at) (λ n. IsSome (edge_numbered g n)) (λ edge n k. ap is_some k) (left_edges edges) images z
 
 -- Numbers of two lists, some of either, differ where the lists are apart.
 some_differ : (ms ns some : List ℕ) → Apart ms ns → ((k : ℕ) → has some k ≡ true → has ns k ≡ true) → All (λ m. All (λ n. m ≡ n → ⊥) some) ms
@@ -76,9 +77,9 @@ value-found a (s ∷ ss) h = elim (cases_Bool (eqb s.attribute a)) [
 ]
 
 value-there : (m : Metamodel) (g : Graph) (n a : ℕ) → IsTyped m g → Stands g (λ c. has (attributes_of m c) a ≡ true) n → IsSome (value_at g n (Attribute a))
-value-there m g n a t h = go (object_at g n) refl h
+value-there m g n a t h = go (object_numbered g n) refl h
   where
-    go : (o : Option Object) → object_at g n ≡ o → IsSomeAnd o (λ x. has (attributes_of m x.class) a ≡ true) → IsSome (option_and_then (λ x. value_in a x.slots) o)
+    go : (o : Option Object) → object_numbered g n ≡ o → IsSomeAnd o (λ x. has (attributes_of m x.class) a ≡ true) → IsSome (option_and_then (λ x. value_in a x.slots) o)
     go None e k = absurd k
     go (Some x) e k =
         let slots : AreSlotsOf m x.class x.slots = All-find (λ o. AreSlotsOf m o.class o.slots) (λ o. eqb o.number n) g.objects x t.objects_fit e in
@@ -280,9 +281,9 @@ kernel_elsewhere g rule f copy vs ws a b d = All-weaker (WriteIs g (all_dropped_
 -- The plan of a valid match of a typed graph fits it.
 pub plan-fits : (m : Metamodel) (g : Graph) (rule : Rule) (args : Args) (f : Match) → IsMeta m → IsRule m rule → IsTyped m g → IsValid m g rule args f → Fits m g (plan_of m g rule args f)
 plan-fits m g rule args f d w t v = record {
-  objects_stand = All-append (λ n. IsSome (object_at g n)) (dropped_nodes rule.shape k) (flat_map drops copies) (All-beside (λ n. IsSome (object_at g n)) (λ node. is_drop node.mark) (left_nodes nodes) f.nodes (nodes_stand m g nodes f.nodes v.plain.nodes_fit)) (All-flat_map (λ n. IsSome (object_at g n)) drops copies (All-weaker C (λ c. All (λ n. IsSome (object_at g n)) (drops c)) (λ c i. All-beside (λ n. IsSome (object_at g n)) (λ node. is_drop node.mark) (left_nodes c.multi.shape.nodes) c.found.nodes (nodes_stand m g c.multi.shape.nodes c.found.nodes i.0.extends.0.nodes_fit)) copies are));
+  objects_stand = All-append (λ n. IsSome (object_numbered g n)) (dropped_nodes rule.shape k) (flat_map drops copies) (All-beside (λ n. IsSome (object_numbered g n)) (λ node. is_drop node.mark) (left_nodes nodes) f.nodes (nodes_stand m g nodes f.nodes v.plain.nodes_fit)) (All-flat_map (λ n. IsSome (object_numbered g n)) drops copies (All-weaker C (λ c. All (λ n. IsSome (object_numbered g n)) (drops c)) (λ c i. All-beside (λ n. IsSome (object_numbered g n)) (λ node. is_drop node.mark) (left_nodes c.multi.shape.nodes) c.found.nodes (nodes_stand m g c.multi.shape.nodes c.found.nodes i.0.extends.0.nodes_fit)) copies are));
   objects_differ = drops_differ f.nodes (λ c. c.found.nodes) drops (dropped_nodes rule.shape k) copies (Differ-beside (λ node. is_drop node.mark) (left_nodes nodes) f.nodes v.plain.nodes_differ) (λ n h. beside-has (λ node. is_drop node.mark) (left_nodes nodes) f.nodes n h) (λ c n h. beside-has (λ node. is_drop node.mark) (left_nodes c.multi.shape.nodes) c.found.nodes n h) (All-weaker C (λ c. Differ (drops c) × Differ (f.nodes ++ c.found.nodes)) (λ c i. (Differ-beside (λ node. is_drop node.mark) (left_nodes c.multi.shape.nodes) c.found.nodes (EachPair-rest (λ x y. x ≡ y → ⊥) f.nodes c.found.nodes i.0.extends.0.nodes_differ), i.0.extends.0.nodes_differ)) copies are) (EachPair-weaker Touch (λ c e. Apart (drops c) e.found.nodes) (λ c e s. s.0.objects) copies v.none_touch);
-  edges_stand = All-append (λ n. IsSome (edge_at g n)) (dropped_edges rule.shape k) (flat_map cuts copies) (All-beside (λ n. IsSome (edge_at g n)) (λ edge. is_drop edge.mark) (left_edges rule.shape.edges) f.edges (edges_stand g (image nodes f.nodes) rule.shape.edges f.edges v.plain.edges_fit)) (All-flat_map (λ n. IsSome (edge_at g n)) cuts copies (All-weaker C (λ c. All (λ n. IsSome (edge_at g n)) (cuts c)) (λ c i. All-beside (λ n. IsSome (edge_at g n)) (λ edge. is_drop edge.mark) (left_edges c.multi.shape.edges) c.found.edges (edges_stand g (image (nodes ++ c.multi.shape.nodes) (f.nodes ++ c.found.nodes)) c.multi.shape.edges c.found.edges i.0.extends.0.edges_fit)) copies are));
+  edges_stand = All-append (λ n. IsSome (edge_numbered g n)) (dropped_edges rule.shape k) (flat_map cuts copies) (All-beside (λ n. IsSome (edge_numbered g n)) (λ edge. is_drop edge.mark) (left_edges rule.shape.edges) f.edges (edges_stand g (image nodes f.nodes) rule.shape.edges f.edges v.plain.edges_fit)) (All-flat_map (λ n. IsSome (edge_numbered g n)) cuts copies (All-weaker C (λ c. All (λ n. IsSome (edge_numbered g n)) (cuts c)) (λ c i. All-beside (λ n. IsSome (edge_numbered g n)) (λ edge. is_drop edge.mark) (left_edges c.multi.shape.edges) c.found.edges (edges_stand g (image (nodes ++ c.multi.shape.nodes) (f.nodes ++ c.found.nodes)) c.multi.shape.edges c.found.edges i.0.extends.0.edges_fit)) copies are));
   edges_differ = drops_differ f.edges (λ c. c.found.edges) cuts (dropped_edges rule.shape k) copies (Differ-beside (λ edge. is_drop edge.mark) (left_edges rule.shape.edges) f.edges v.plain.edges_differ) (λ n h. beside-has (λ edge. is_drop edge.mark) (left_edges rule.shape.edges) f.edges n h) (λ c n h. beside-has (λ edge. is_drop edge.mark) (left_edges c.multi.shape.edges) c.found.edges n h) (All-weaker C (λ c. Differ (cuts c) × Differ (f.edges ++ c.found.edges)) (λ c i. (Differ-beside (λ edge. is_drop edge.mark) (left_edges c.multi.shape.edges) c.found.edges (EachPair-rest (λ x y. x ≡ y → ⊥) f.edges c.found.edges i.0.extends.0.edges_differ), i.0.extends.0.edges_differ)) copies are) (EachPair-weaker Touch (λ c e. Apart (cuts c) e.found.edges) (λ c e s. s.0.edges) copies v.none_touch);
   none_dangle = carries.none_dangle;
   slots_stand = All-append W kernel_written (flat_map wrote copies) (All-weaker (WriteIs g (all_dropped_nodes rule f) f.nodes) W (λ u i. (i.stands, i.stays)) kernel_written kernel) (All-flat_map W wrote copies (All-weaker C (λ c. All W (wrote c)) (λ c i. All-weaker (CopyWriteIs g rule f c) W (λ u j. (j.is.stands, j.is.stays)) (wrote c) (own c i)) copies are));

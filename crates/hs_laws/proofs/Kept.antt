@@ -1,7 +1,7 @@
 -- Matches and extensions in the graph after a step.
-use Rattle.std.proofs.Common.{ℕ, ◌+◌, ◌<◌, ◌≡◌, inl, inr, List, [], ◌∷◌, ◌++◌, true, false, not, ◌||◌, ◌&&◌, eqb, Some, refl, ap, subst}
+use Rattle.std.proofs.Common.{ℕ, ◌+◌, ◌<◌, ◌≡◌, inl, inr, List, [], ◌∷◌, ◌++◌, true, false, not, ◌||◌, ◌&&◌, eqb, Some, refl, subst}
 use Rattle.std.specs.List.{All, AllZip, filter, list_any}
-use Rattle.std.proofs.lemmas.Bool.{eq-eqb, both_ways, eqb-true, or_cases, or_from, or_parts, and_right, and_parts}
+use Rattle.std.proofs.lemmas.Bool.{both_ways, eqb-true, or_cases, or_from, or_parts, and_right, and_parts}
 use Rattle.std.proofs.lemmas.List.Elements.{All-nil, All-cons, All-head, All-tail, All-append, All-filter}
 use Rattle.hs_types.specs.declared.graph.Edge.{Edge}
 use Rattle.hs_types.specs.declared.graph.Graph.{Graph}
@@ -16,7 +16,6 @@ use Rattle.hs_types.specs.declared.rule.PatternNode.{PatternNode}
 use Rattle.hs_types.specs.declared.rule.PatternSlot.{PatternSlot}
 use Rattle.hs_types.specs.declared.rule.Shape.{Shape}
 use Rattle.hs_types.specs.declared.rule.SlotKind.{SlotKind}
-use Rattle.hs_types.specs.declared.rule.SlotKind.TheVariants.{Attribute, Link, Container}
 use Rattle.hs_types.specs.Dangling.{NoneDangle}
 use Rattle.hs_expr.specs.Lists.{has, Apart}
 use Rattle.hs_types.specs.Metamodel.{Conforms}
@@ -25,11 +24,12 @@ use Rattle.hs_types.specs.PlainMatch.{image, IsImage, Extends}
 use Rattle.hs_types.specs.RuleForm.{has_slot}
 use Rattle.hs_types.specs.Spares.{IsOld, MakesNone}
 use Rattle.hs_types.specs.Step.{is_to, new_edges, number_of, step}
-use Rattle.hs_types.specs.TypedGraph.{object_at, value_at, IsOf}
+use Rattle.hs_types.specs.TypedGraph.{object_numbered, value_at, IsOf}
 use Rattle.hs_types.proofs.Lookups.{object_there}
+use Rattle.hs_types.proofs.SlotKinds.{is_kind-same}
 use Rattle.hs_laws.proofs.Images.{FitsNode, IsLeft, image-all}
 use Rattle.hs_expr.proofs.Lists.{All-both, AllZip-with, AllZip-items, AllZip-right}
-use Rattle.hs_laws.proofs.Lookups.{Stands-kept, Stands-old, edge_at-kept, edge-old, object-unmade, edge-unmade, value_at-kept}
+use Rattle.hs_types.proofs.AfterStep.{Stands-kept, Stands-old, edge_numbered-kept, edge-old, object-unmade, edge-unmade, value_at-kept}
 
 -- It is not dropped.
 abbrev pub Stays : List ℕ → ℕ → Type 0
@@ -44,7 +44,7 @@ Extends-kept m g p s f t x a b h =
     let at : ℕ → ℕ = image (s.nodes ++ t.nodes) (f.nodes ++ x.nodes) in
     record {
       nodes_fit = AllZip-with (Stays p.drop_objects) (FitsNode m g) (FitsNode m (step g p)) (λ node n d k. Stands-kept (λ c. Conforms m c node.class) g p n d k) (left_nodes t.nodes) x.nodes a h.nodes_fit;
-      edges_fit = AllZip-with (Stays p.drop_edges) (IsImage g at) (IsImage (step g p) at) (λ y n d k. edge_at-kept g p n (edge_of at y n) d k) (left_edges t.edges) x.edges b h.edges_fit;
+      edges_fit = AllZip-with (Stays p.drop_edges) (IsImage g at) (IsImage (step g p) at) (λ y n d k. edge_numbered-kept g p n (edge_of at y n) d k) (left_edges t.edges) x.edges b h.edges_fit;
       nodes_differ = h.nodes_differ;
       edges_differ = h.edges_differ;
     }
@@ -92,22 +92,6 @@ NoneDangle-kept ns es g p ends h = All-append D (filter (λ e. not (has p.drop_e
     made k [] a = All-nil D
     made k (x ∷ xs) a = All-cons D (record { number = k; source = number_of g.next_object x.source; reference = x.reference; target = number_of g.next_object x.target }) (new_edges g.next_object (k + 1) xs) (λ t. absurd (both_ways (has ns (number_of g.next_object x.source) || has ns (number_of g.next_object x.target)) (All-head E x xs a) t)) (made (k + 1) xs (All-tail E x xs a))
 
-pub is_kind-itself : (k : SlotKind) → is_kind k k ≡ true
-is_kind-itself (Attribute a) = eq-eqb a a refl
-is_kind-itself (Link a) = eq-eqb a a refl
-is_kind-itself Container = refl
-
-pub is_kind-same : (a b : SlotKind) → is_kind a b ≡ true → a ≡ b
-is_kind-same (Attribute a) (Attribute b) h = ap Attribute (eqb-true a b h)
-is_kind-same (Link a) (Link b) h = ap Link (eqb-true a b h)
-is_kind-same Container Container h = refl
-is_kind-same (Attribute a) (Link b) h = absurd (cc)
-is_kind-same (Attribute a) Container h = absurd (cc)
-is_kind-same (Link a) (Attribute b) h = absurd (cc)
-is_kind-same (Link a) Container h = absurd (cc)
-is_kind-same Container (Attribute b) h = absurd (cc)
-is_kind-same Container (Link b) h = absurd (cc)
-
 -- What holds of each slot holds of one of them, by its node and kind.
 pub has_slot-all : (P : ℕ → SlotKind → Type 0) (slots : List PatternSlot) (n : ℕ) (kind : SlotKind) → All (λ slot. P slot.node slot.kind) slots → has_slot slots n kind ≡ true → P n kind
 has_slot-all P [] n kind a h = absurd (cc)
@@ -127,7 +111,7 @@ unwritten_kind n kind (w ∷ ws) a =
 -- A slot of an image that stays keeps its value where it is not written.
 pub value-stays : (m : Metamodel) (g : Graph) (p : Plan) (nodes : List PatternNode) (images : List ℕ) (n : ℕ) (slot : SlotKind) → AllZip (FitsNode m g) (left_nodes nodes) images → Apart images p.drop_objects → IsLeft nodes n → list_any (is_to (image nodes images n) slot) p.writes ≡ false → value_at (step g p) (image nodes images n) slot ≡ value_at g (image nodes images n) slot
 value-stays m g p nodes images n slot fit stay left w =
-    let There : ℕ → Type 0 = λ i. (x : Object) × (object_at g i ≡ Some x) in
+    let There : ℕ → Type 0 = λ i. (x : Object) × (object_numbered g i ≡ Some x) in
     let there : All There images = AllZip-right (FitsNode m g) There (λ node i k. object_there m g node.class i k) (left_nodes nodes) images fit in
     let both : There (image nodes images n) × Stays p.drop_objects (image nodes images n) = image-all (FitsNode m g) (λ i. There i × Stays p.drop_objects i) nodes images n fit (All-both There (Stays p.drop_objects) images there stay) left in
     value_at-kept g p (image nodes images n) slot both.0.0 both.1 both.0.1 w

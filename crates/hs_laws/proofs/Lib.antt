@@ -1,11 +1,8 @@
-pub mod Lookups
 pub mod Images
 pub mod Values
 pub mod Kept
 pub mod Reading
 pub mod Spared
-pub mod Names
-pub mod Typed
 pub mod Classes
 pub mod Staying
 pub mod Planned

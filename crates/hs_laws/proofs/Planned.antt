@@ -17,7 +17,7 @@ use Rattle.hs_types.specs.declared.meta.FeatureKind.TheVariants as feature
 use Rattle.hs_types.specs.declared.meta.Metamodel.{Metamodel}
 use Rattle.hs_types.specs.declared.plan.End.{End}
 use Rattle.hs_types.specs.declared.plan.MadeEdge.{MadeEdge}
-use Rattle.hs_types.specs.declared.plan.MadeObject.{MadeObject}
+use Rattle.hs_types.specs.Plan.{MadeObject, Plan, CanBeMade, EndIs, SlotFits, copy_edges, copy_end, copy_objects, copy_writes, edges_for, end_of, made_slots, objects_for, plan_of, value_set, writes_of}
 use Rattle.hs_types.specs.declared.plan.Write.{Write}
 use Rattle.hs_types.specs.declared.request.Args.{Args}
 use Rattle.hs_types.specs.declared.rule.Mark.{Mark}
@@ -32,7 +32,6 @@ use Rattle.hs_types.specs.Copies.{Copy, copies_of, copy_env, images_of, nodes_of
 use Rattle.hs_expr.specs.Lists.{has}
 use Rattle.hs_types.specs.Metamodel.{Conforms, IsConcrete, IsMeta, FeatureFits, attributes_of, default_of, default_of_kind, feature_at, features_of, fits, is_of_type, target_of, type_of, type_of_kind}
 use Rattle.hs_types.specs.Pattern.{is_drop, is_left, is_make, made_edges, made_nodes, node_is}
-use Rattle.hs_types.specs.Plan.{Plan, CanBeMade, EndIs, SlotFits, copy_edges, copy_end, copy_objects, copy_writes, edges_for, end_of, made_slots, objects_for, plan_of, value_set, writes_of}
 use Rattle.hs_types.specs.PlainMatch.{image, kernel_of}
 use Rattle.hs_types.specs.RuleForm.{EdgeFits, EndFits, IsRule, NodeFits, joins}
 use Rattle.hs_types.specs.Step.{step}
@@ -42,7 +41,7 @@ use Rattle.hs_laws.proofs.Classes.{GoesDown, Stands-down, conforms-down, feature
 use Rattle.hs_laws.proofs.Images.{FitsNode, image-at, joined}
 use Rattle.hs_expr.proofs.Lists.{All-both, All-filter_map, All-find, All-flat_map, All-kept, find-passes, slice_get-append, slice_get-behind, slice_get-first, slice_get-last}
 use Rattle.hs_laws.proofs.Staying.{CopyIs, CopyStays, copies_are, copies_stay, kernel_stays}
-use Rattle.hs_laws.proofs.Typed.{Carries, IsTyped-step}
+use Rattle.hs_types.proofs.TypedStep.{Carries, IsTyped-step}
 
 -- The values that are written fit.
 writes_fit : (m : Metamodel) (env : Env) (nodes : List PatternNode) (images : List ℕ) (sets : List SetItem) → AreFit m env sets → All (λ write. SlotFits m write.slot write.value) (writes_of env nodes images sets)

@@ -14,7 +14,7 @@ use Rattle.hs_types.specs.declared.graph.Slot.{Slot}
 use Rattle.hs_types.specs.declared.matching.Extension.{Extension}
 use Rattle.hs_types.specs.declared.matching.Match.{Match}
 use Rattle.hs_types.specs.declared.meta.Metamodel.{Metamodel}
-use Rattle.hs_types.specs.declared.plan.MadeObject.{MadeObject}
+use Rattle.hs_types.specs.Plan.{MadeObject, Plan, copy_objects, copy_writes, made_slots, objects_for, plan_of, value_set, writes_of}
 use Rattle.hs_types.specs.declared.plan.Write.{Write}
 use Rattle.hs_types.specs.declared.request.Args.{Args}
 use Rattle.hs_types.specs.declared.rule.Multi.{Multi}
@@ -30,7 +30,6 @@ use Rattle.hs_types.specs.Copies.{AreCopies, Copy, CopyFits, IsCopy, copies_from
 use Rattle.hs_expr.specs.Lists.{has, Apart}
 use Rattle.hs_types.specs.Metamodel.{attributes_of, default_of, fits}
 use Rattle.hs_types.specs.Pattern.{is_make, left_nodes, no_shape, node_is, shape_of}
-use Rattle.hs_types.specs.Plan.{Plan, copy_objects, copy_writes, made_slots, objects_for, plan_of, value_set, writes_of}
 use Rattle.hs_types.specs.PlainMatch.{Extends, IsPlain, image, kernel_of, no_match}
 use Rattle.hs_types.specs.RuleForm.{IsRule, reads_in}
 use Rattle.hs_types.specs.Spares.{IsOld, IsSupported, LeavesKinds, Spares, touches_kind}
@@ -39,7 +38,7 @@ use Rattle.hs_types.specs.TypedGraph.{name_at, value_at}
 use Rattle.hs_laws.proofs.Images.{FitsNode, image-front, joined}
 use Rattle.hs_laws.proofs.Kept.{Extends-kept, Extends-old, Extends-unmade, NoneDangle-kept, Stays, has_slot-all, unwritten_kind, value-stays}
 use Rattle.hs_expr.proofs.Lists.{All-both, All-find, All-front, All-of_flat_map, All-of_map, All-rest_of, AllZip-with, filter_map-same, flat_map-same}
-use Rattle.hs_laws.proofs.Lookups.{name_at-kept}
+use Rattle.hs_types.proofs.AfterStep.{name_at-kept}
 use Rattle.hs_laws.proofs.Reading.{ReadsKernel, ReadsMulti, kernel_read, multi_read}
 use Rattle.hs_laws.proofs.Values.{Agree, value_of-same}
 

@@ -17,29 +17,29 @@ use Rattle.hs_types.specs.Dangling.{NoneDangle, dropped_nodes}
 use Rattle.hs_expr.specs.Lists.{has, beside}
 use Rattle.hs_types.specs.Pattern.{is_drop, is_left, left_nodes}
 use Rattle.hs_types.specs.Step.{new_edges, new_objects, object_after, step}
-use Rattle.hs_types.specs.TypedGraph.{edge_at, object_at}
+use Rattle.hs_types.specs.TypedGraph.{edge_numbered, object_numbered}
 use Rattle.hs_expr.proofs.Lists.{All-each, Rise_missing}
-use Rattle.hs_laws.proofs.Lookups.{edge_at-step, new_edges-rise, new_objects-rise, object_at-step}
+use Rattle.hs_types.proofs.AfterStep.{edge_numbered-step, new_edges-rise, new_objects-rise, object_numbered-step}
 
-pub object-stays : (g : Graph) (p : Plan) (n : ℕ) (x : Object) → has p.drop_objects n ≡ false → object_at g n ≡ Some x → object_at (step g p) n ≡ Some (object_after p.writes x)
-object-stays g p n x d h = object_at-step g p n ∙ rw (d, h) refl
+pub object-stays : (g : Graph) (p : Plan) (n : ℕ) (x : Object) → has p.drop_objects n ≡ false → object_numbered g n ≡ Some x → object_numbered (step g p) n ≡ Some (object_after p.writes x)
+object-stays g p n x d h = object_numbered-step g p n ∙ rw (d, h) refl
 
-pub object-gone : (g : Graph) (p : Plan) (n : ℕ) → n < g.next_object → has p.drop_objects n ≡ true → object_at (step g p) n ≡ None
+pub object-gone : (g : Graph) (p : Plan) (n : ℕ) → n < g.next_object → has p.drop_objects n ≡ true → object_numbered (step g p) n ≡ None
 object-gone g p n l d =
     let none : find (λ o. eqb o.number n) (new_objects g.next_object g.next_name p.make_objects) ≡ None = Rise_missing (λ o. o.number) g.next_object (new_objects g.next_object g.next_name p.make_objects) (g.next_object + length p.make_objects) n l (new_objects-rise g.next_object g.next_name p.make_objects) in
-    object_at-step g p n ∙ rw (d, none) refl
+    object_numbered-step g p n ∙ rw (d, none) refl
 
-pub edge-gone : (g : Graph) (p : Plan) (n : ℕ) → n < g.next_edge → has p.drop_edges n ≡ true → edge_at (step g p) n ≡ None
+pub edge-gone : (g : Graph) (p : Plan) (n : ℕ) → n < g.next_edge → has p.drop_edges n ≡ true → edge_numbered (step g p) n ≡ None
 edge-gone g p n l d =
     let none : find (λ e. eqb e.number n) (new_edges g.next_object g.next_edge p.make_edges) ≡ None = Rise_missing (λ e. e.number) g.next_edge (new_edges g.next_object g.next_edge p.make_edges) (g.next_edge + length p.make_edges) n l (new_edges-rise g.next_object g.next_edge p.make_edges) in
-    edge_at-step g p n ∙ rw (d, none) refl
+    edge_numbered-step g p n ∙ rw (d, none) refl
 
-pub object-from : (g : Graph) (p : Plan) (n : ℕ) (y : Object) → n < g.next_object → object_at (step g p) n ≡ Some y → (x : Object) × (object_at g n ≡ Some x) × (has p.drop_objects n ≡ false) × (y ≡ object_after p.writes x)
+pub object-from : (g : Graph) (p : Plan) (n : ℕ) (y : Object) → n < g.next_object → object_numbered (step g p) n ≡ Some y → (x : Object) × (object_numbered g n ≡ Some x) × (has p.drop_objects n ≡ false) × (y ≡ object_after p.writes x)
 object-from g p n y l h =
     let none : find (λ o. eqb o.number n) (new_objects g.next_object g.next_name p.make_objects) ≡ None = Rise_missing (λ o. o.number) g.next_object (new_objects g.next_object g.next_name p.make_objects) (g.next_object + length p.make_objects) n l (new_objects-rise g.next_object g.next_name p.make_objects) in
-    go (has p.drop_objects n) (object_at g n) refl refl (ap (λ o. option_or (option_map (object_after p.writes) (cond (has p.drop_objects n) None (object_at g n))) o) (sym none) ∙ (sym (object_at-step g p n) ∙ h))
+    go (has p.drop_objects n) (object_numbered g n) refl refl (ap (λ o. option_or (option_map (object_after p.writes) (cond (has p.drop_objects n) None (object_numbered g n))) o) (sym none) ∙ (sym (object_numbered-step g p n) ∙ h))
   where
-    go : (b : Bool) (o : Option Object) → has p.drop_objects n ≡ b → object_at g n ≡ o → option_or (option_map (object_after p.writes) (cond b None o)) None ≡ Some y → (x : Object) × (object_at g n ≡ Some x) × (has p.drop_objects n ≡ false) × (y ≡ object_after p.writes x)
+    go : (b : Bool) (o : Option Object) → has p.drop_objects n ≡ b → object_numbered g n ≡ o → option_or (option_map (object_after p.writes) (cond b None o)) None ≡ Some y → (x : Object) × (object_numbered g n ≡ Some x) × (has p.drop_objects n ≡ false) × (y ≡ object_after p.writes x)
     go true o d e k = absurd (cc)
     go false None d e k = absurd (cc)
     go false (Some x) d e k = let same : object_after p.writes x ≡ y = cc in (x, e, d, sym same)

@@ -9,8 +9,7 @@ use Rattle.hs_types.specs.declared.meta.FeatureKind.{FeatureKind}
 use Rattle.hs_types.specs.declared.meta.Metamodel.{Metamodel}
 use Rattle.hs_types.specs.declared.plan.End.TheVariants.{Old, New}
 use Rattle.hs_types.specs.declared.plan.MadeEdge.{MadeEdge}
-use Rattle.hs_types.specs.declared.plan.MadeObject.{MadeObject}
-use Rattle.hs_types.specs.Plan.{Plan}
+use Rattle.hs_types.specs.Plan.{MadeObject, Plan}
 use Rattle.hs_types.specs.declared.rule.Mark.{Mark}
 use Rattle.hs_types.specs.declared.rule.Mark.TheVariants.{Drop, Keep, Make}
 use Rattle.hs_types.specs.declared.rule.Multi.{Multi}

@@ -9,6 +9,7 @@ mod conformance;
 mod evaluation;
 mod examples;
 mod groups;
+mod hosts;
 mod journals;
 mod order;
 mod refusals;
@@ -22,6 +23,7 @@ pub use examples::{
     orders, plain_matches, plans, rules_refused, steps_made, transfers,
 };
 pub use groups::{entries_refused, groups_tried};
+pub use hosts::{hosts_tried, plans_can_be_installed};
 pub use journals::{
     attempts_stay_typed, journals_go_on, journals_stay_lawful, lawful_or_not,
     missed_attempts_change_nothing,

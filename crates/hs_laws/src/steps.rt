@@ -8,7 +8,7 @@ ghost use Rattle.hs_types.specs.declared.graph.Object.{Object};
 ghost use Rattle.hs_types.specs.declared.matching.Match.{Match};
 ghost use Rattle.hs_types.specs.declared.meta.Metamodel.{Metamodel};
 ghost use Rattle.hs_types.specs.declared.plan.MadeEdge.{MadeEdge};
-ghost use Rattle.hs_types.specs.declared.plan.MadeObject.{MadeObject};
+ghost use Rattle.hs_types.specs.Plan.{MadeObject, Plan, Fits, plan_of};
 ghost use Rattle.hs_types.specs.declared.plan.Write.{Write};
 ghost use Rattle.hs_types.specs.declared.request.Args.{Args};
 ghost use Rattle.hs_types.specs.declared.rule.Rule.{Rule};
@@ -17,10 +17,9 @@ ghost use Rattle.hs_types.specs.Dangling.{NoneDangle};
 ghost use Rattle.hs_expr.specs.Lists.{has};
 ghost use Rattle.hs_types.specs.Metamodel.{IsMeta};
 ghost use Rattle.hs_types.specs.Pattern.{is_drop};
-ghost use Rattle.hs_types.specs.Plan.{Plan, Fits, plan_of};
 ghost use Rattle.hs_types.specs.RuleForm.{IsRule};
 ghost use Rattle.hs_types.specs.Step.{is_to, number_of, object_after, step};
-ghost use Rattle.hs_types.specs.TypedGraph.{IsTyped, edge_at, hash_name, object_at, value_at};
+ghost use Rattle.hs_types.specs.TypedGraph.{IsTyped, edge_numbered, hash_name, object_numbered, value_at};
 ghost use Rattle.hs_types.specs.ValidMatch.{IsValid};
 ghost use Rattle.hs_types.specs.Copies.{all_dropped_edges, all_dropped_nodes};
 
@@ -50,25 +49,25 @@ pub fn plans_fit()
 /// A step changes nothing that its plan doesn't name.
 pub fn steps_change_what_they_name()
     ensures objects_stay { (g : Graph) (plan : Plan) (n : ℕ) (x : Object)
-        → has plan.drop_objects n ≡ false → object_at g n ≡ Some x
-        → object_at (step g plan) n ≡ Some (object_after plan.writes x) }
+        → has plan.drop_objects n ≡ false → object_numbered g n ≡ Some x
+        → object_numbered (step g plan) n ≡ Some (object_after plan.writes x) }
     ensures slots_stay { (g : Graph) (plan : Plan) (n : ℕ) (slot : SlotKind) (x : Object)
-        → has plan.drop_objects n ≡ false → object_at g n ≡ Some x
+        → has plan.drop_objects n ≡ false → object_numbered g n ≡ Some x
         → list_any (is_to n slot) plan.writes ≡ false
         → value_at (step g plan) n slot ≡ value_at g n slot }
     ensures edges_stay { (g : Graph) (plan : Plan) (n : ℕ) (e : Edge)
-        → has plan.drop_edges n ≡ false → edge_at g n ≡ Some e
-        → edge_at (step g plan) n ≡ Some e }
+        → has plan.drop_edges n ≡ false → edge_numbered g n ≡ Some e
+        → edge_numbered (step g plan) n ≡ Some e }
     ensures objects_go { (g : Graph) (plan : Plan) (n : ℕ) → n < g.next_object
-        → has plan.drop_objects n ≡ true → object_at (step g plan) n ≡ None }
+        → has plan.drop_objects n ≡ true → object_numbered (step g plan) n ≡ None }
     ensures edges_go { (g : Graph) (plan : Plan) (n : ℕ) → n < g.next_edge
-        → has plan.drop_edges n ≡ true → edge_at (step g plan) n ≡ None }
+        → has plan.drop_edges n ≡ true → edge_numbered (step g plan) n ≡ None }
     ensures no_object_comes { (g : Graph) (plan : Plan) (n : ℕ) (y : Object) → n < g.next_object
-        → object_at (step g plan) n ≡ Some y
-        → (x : Object) × (object_at g n ≡ Some x) × (has plan.drop_objects n ≡ false)
+        → object_numbered (step g plan) n ≡ Some y
+        → (x : Object) × (object_numbered g n ≡ Some x) × (has plan.drop_objects n ≡ false)
         × (y ≡ object_after plan.writes x) }
     ensures no_edge_comes { (g : Graph) (plan : Plan) (n : ℕ) (e : Edge) → n < g.next_edge
-        → edge_at (step g plan) n ≡ Some e → edge_at g n ≡ Some e }
+        → edge_numbered (step g plan) n ≡ Some e → edge_numbered g n ≡ Some e }
 {}
 
 /// A step brings what its plan names: made objects and edges get the next numbers and names, in
@@ -76,7 +75,7 @@ pub fn steps_change_what_they_name()
 pub fn steps_bring_what_they_name()
     ensures objects_come { (m : Metamodel) (g : Graph) (plan : Plan) (i : ℕ) (made : MadeObject)
         → IsTyped m g → slice_get plan.make_objects i ≡ Some made
-        → object_at (step g plan) (g.next_object + i) ≡ Some (record {
+        → object_numbered (step g plan) (g.next_object + i) ≡ Some (record {
           number = g.next_object + i;
           name = hash_name (g.next_name + i);
           class = made.class;
@@ -84,7 +83,7 @@ pub fn steps_bring_what_they_name()
         }) }
     ensures edges_come { (m : Metamodel) (g : Graph) (plan : Plan) (i : ℕ) (made : MadeEdge)
         → IsTyped m g → slice_get plan.make_edges i ≡ Some made
-        → edge_at (step g plan) (g.next_edge + i) ≡ Some (record {
+        → edge_numbered (step g plan) (g.next_edge + i) ≡ Some (record {
           number = g.next_edge + i;
           source = number_of g.next_object made.source;
           reference = made.reference;

@@ -1,8 +1,5 @@
 -- Numbers in lists, and tables of truth values.
-use Rattle.std.proofs.Common.{◌↔◌, set, replicate, slice_get, Some, ap, zero, suc, ℕ, ◌+◌, ◌<◌, ◌≡◌, ◌⊎◌, List, [], ◌∷◌, ◌++◌, length, take, get_or, Bool, true, false, refl, arith, inl, inr}
-use Rattle.std.proofs.Math.ListN.{length-replicate}
-use Rattle.std.proofs.lemmas.Option.{get_or_from_slice_get}
-use Rattle.std.proofs.lemmas.List.{take_more}
+use Rattle.std.proofs.Common.{set, replicate, slice_get, Some, ap, zero, suc, ℕ, ◌<◌, ◌≡◌, ◌⊎◌, List, [], ◌∷◌, ◌++◌, length, get_or, Bool, true, false, refl, arith, inl, inr}
 use Rattle.std.proofs.lemmas.Grind.{common_steps}
 use Rattle.hs_expr.specs.Lists.{has}
 use Rattle.hs_expr.proofs.Lists.{has-here, has_cases}

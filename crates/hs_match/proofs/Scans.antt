@@ -8,7 +8,7 @@ use Rattle.hs_types.specs.declared.graph.Graph.{Graph}
 use Rattle.hs_types.specs.declared.graph.Object.{Object}
 use Rattle.hs_types.specs.declared.meta.Metamodel.{Metamodel}
 use Rattle.hs_types.specs.Metamodel.{Conforms}
-use Rattle.hs_types.specs.TypedGraph.{object_at, edge_at}
+use Rattle.hs_types.specs.TypedGraph.{object_numbered, edge_numbered}
 use Rattle.hs_match.specs.Candidates.{Ascend, IsLeastFrom, NoneFrom, IsFree, IsFreeEdge, MayBe, MayJoin}
 use Rattle.hs_match.proofs.Ordered.{find_here, find_place}
 
@@ -68,14 +68,14 @@ some_and (Some a) P h = (a, refl, h)
 
 pub free_stands : (m : Metamodel) (g : Graph) (class : ℕ) (taken : List ℕ) (y : ℕ) → IsFree m g class taken y → Stands (λ object. object.number) (MayBe m class taken) g.objects y
 free_stands m g class taken y free =
-    let found = some_and (object_at g y) (λ object. Conforms m object.class class) free.of_class in
+    let found = some_and (object_numbered g y) (λ object. Conforms m object.class class) free.of_class in
     let at = find_place (λ (object : Object). object.number) g.objects y found.0 found.1 in
     record { place = at.0; item = found.0; at = at.1; same = at.2; passes = record { of_class = found.2; free = rw at.2 free.free } }
 
 pub free_here : (m : Metamodel) (g : Graph) (class : ℕ) (taken : List ℕ) (i : ℕ) (object : Object) → Ascend (λ object. object.number) g.objects → slice_get g.objects i ≡ Some object →
     MayBe m class taken object → IsFree m g class taken object.number
 free_here m g class taken i object up at may =
-    let found : object_at g object.number ≡ Some object = find_here (λ (object : Object). object.number) g.objects i object up at in
+    let found : object_numbered g object.number ≡ Some object = find_here (λ (object : Object). object.number) g.objects i object up at in
     record { of_class = rw found may.of_class; free = may.free }
 
 pub edge_stands : (g : Graph) (source reference target : ℕ) (taken : List ℕ) (y : ℕ) → IsFreeEdge g source reference target taken y → Stands (λ edge. edge.number) (MayJoin source reference target taken) g.edges y
@@ -87,5 +87,5 @@ edge_stands g source reference target taken y free =
 pub edge_here : (g : Graph) (source reference target : ℕ) (taken : List ℕ) (i : ℕ) (edge : Edge) → Ascend (λ edge. edge.number) g.edges → slice_get g.edges i ≡ Some edge →
     MayJoin source reference target taken edge → IsFreeEdge g source reference target taken edge.number
 edge_here g source reference target taken i edge up at may =
-    let found : edge_at g edge.number ≡ Some edge = find_here (λ (edge : Edge). edge.number) g.edges i edge up at in
+    let found : edge_numbered g edge.number ≡ Some edge = find_here (λ (edge : Edge). edge.number) g.edges i edge up at in
     record { joins = rw (← may.source_same, ← may.reference_same, ← may.target_same) found; free = may.free }

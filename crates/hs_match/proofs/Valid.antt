@@ -24,7 +24,7 @@ use Rattle.hs_types.specs.MatchOrder.{IsEarlier}
 use Rattle.hs_types.specs.Pattern.{is_left, is_drop, left_nodes, left_edges}
 use Rattle.hs_types.specs.PlainMatch.{IsPlain, kernel_of}
 use Rattle.hs_types.specs.ValidMatch.{IsValid, NoneIsValid, IsFirst}
-use Rattle.hs_types.specs.Copies.{all_dropped_nodes, all_dropped_edges}
+use Rattle.hs_types.specs.Copies.{all_dropped_nodes}
 use Rattle.hs_types.specs.ValidMatch as valid
 use Rattle.hs_match.specs.Candidates.{Ascend}
 use Rattle.hs_match.specs.Extending.{AreImages, Sought, split}

@@ -6,7 +6,7 @@ use Rattle.hs_types.specs.declared.graph.Object.{Object}
 use Rattle.hs_types.specs.declared.meta.Metamodel.{Metamodel}
 use Rattle.hs_expr.specs.Lists.{has}
 use Rattle.hs_types.specs.Metamodel.{Conforms}
-use Rattle.hs_types.specs.TypedGraph.{edge_at, IsOf}
+use Rattle.hs_types.specs.TypedGraph.{edge_numbered, IsOf}
 
 -- Of the numbers from `from` on that the fact holds of, x is the least.
 pub record IsLeastFrom (P : ℕ → Type 0) (from x : ℕ) : Type 0 where
@@ -41,7 +41,7 @@ pub record MayBe (m : Metamodel) (class : ℕ) (taken : List ℕ) (object : Obje
 -- Edge n is of the reference and joins these two, and it isn't taken.
 pub record IsFreeEdge (g : Graph) (source reference target : ℕ) (taken : List ℕ)
     (n : ℕ) : Type 0 where
-  pub joins : edge_at g n
+  pub joins : edge_numbered g n
       ≡ Some (record { number = n; source = source; reference = reference; target = target })
   pub free : has taken n ≡ false
 

@@ -6,7 +6,7 @@ use Rattle.hs_match.specs.Extending.{Sought}
 abbrev pub sought : Search → Sought
 sought e = record {
   meta = e.meta.now;
-  graph = e.graph.now;
+  graph = e.graph.now.graph;
   base_nodes = e.base_nodes.now;
   base = record { nodes = e.base_images.now; edges = e.base_edge_images.now };
   nodes = e.nodes.now;

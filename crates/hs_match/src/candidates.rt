@@ -2,25 +2,26 @@
 
 ghost use Rattle.std.specs.Prelude.{◌≡◌, ◌≤◌, ◌<◌, ◌↔◌, ◌++◌, ℕ, IsTrue, Some, false, slice_get, IsSomeAnd};
 ghost use Rattle.hs_expr.specs.Lists.{has};
-ghost use Rattle.hs_types.specs.TypedGraph.{object_at};
+ghost use Rattle.hs_types.specs.TypedGraph.{object_numbered};
 ghost use Rattle.hs_match.specs.Candidates.{Ascend, IsFree, IsFreeEdge, IsNextFrom, MayBe, MayJoin};
 
 use crate::lookup::{find_object, first_from};
-use hs_types::{ClassNo, Edge, EdgeNo, FeatureNo, Graph, Meta, Object, ObjectNo};
+use hs_types::{ClassNo, Edge, EdgeNo, FeatureNo, ListGraph, Meta, Object, ObjectNo};
 
 /// The least free object of the class from this number on.
 pub fn next_object(
     meta: &Meta,
-    graph: &Graph,
+    graph: &ListGraph,
     class: ClassNo,
     base: &[ObjectNo],
     taken: &[ObjectNo],
     from: u64,
 ) -> Option<ObjectNo>
-    requires { Ascend (λ object. object.number) graph.now.objects }
-    ensures { IsNextFrom (IsFree meta.now graph.now class (base.now ++ taken.now)) from result }
+    requires { Ascend (λ object. object.number) graph.now.graph.objects }
+    ensures { IsNextFrom (IsFree meta.now graph.now.graph class (base.now ++ taken.now)) from
+        result }
 {
-    let objects = graph.objects.as_slice();
+    let objects = graph.objects();
     for i in first_from(objects, from)..objects.len() {
         let object = &objects[i];
         if may_be(meta, object, class, base, taken) {
@@ -53,14 +54,14 @@ fn is_new(base: &[u32], taken: &[u32], number: u32) -> bool
 /// Whether this is a free object of the class.
 pub fn is_free(
     meta: &Meta,
-    graph: &Graph,
+    graph: &ListGraph,
     class: ClassNo,
     base: &[ObjectNo],
     taken: &[ObjectNo],
     number: ObjectNo,
 ) -> bool
-    requires { Ascend (λ object. object.number) graph.now.objects }
-    ensures { IsTrue result ↔ IsFree meta.now graph.now class (base.now ++ taken.now) number }
+    requires { Ascend (λ object. object.number) graph.now.graph.objects }
+    ensures { IsTrue result ↔ IsFree meta.now graph.now.graph class (base.now ++ taken.now) number }
 {
     if !is_new(base, taken, number) {
         return false;
@@ -81,17 +82,17 @@ pub struct Joining {
 
 /// The least free edge of that kind from this number on.
 pub fn next_edge(
-    graph: &Graph,
+    graph: &ListGraph,
     joining: Joining,
     base: &[EdgeNo],
     taken: &[EdgeNo],
     from: u64,
 ) -> Option<EdgeNo>
-    requires { Ascend (λ edge. edge.number) graph.now.edges }
-    ensures { IsNextFrom (IsFreeEdge graph.now joining.source joining.reference joining.target
+    requires { Ascend (λ edge. edge.number) graph.now.graph.edges }
+    ensures { IsNextFrom (IsFreeEdge graph.now.graph joining.source joining.reference joining.target
         (base.now ++ taken.now)) from result }
 {
-    let edges = graph.edges.as_slice();
+    let edges = graph.edges();
     for i in 0..edges.len() {
         let edge = edges[i];
         if u64::from(edge.number) >= from && may_join(edge, joining, base, taken) {

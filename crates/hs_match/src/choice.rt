@@ -15,7 +15,7 @@ use crate::candidates::{Joining, next_edge, next_object};
 use crate::link::{Link, next_end};
 use hs_search::Choice;
 use hs_types::{
-    ClassNo, EdgeNo, Graph, Meta, ObjectNo, PatternEdge, PatternNode, count_left_edges,
+    ClassNo, EdgeNo, ListGraph, Meta, ObjectNo, PatternEdge, PatternNode, count_left_edges,
     count_left_nodes, image_of, left_edge, left_node, left_nodes_before,
 };
 
@@ -23,20 +23,20 @@ impl<'a> Extending<'a> {
     /// The search for the extensions of a match, whose images differ, by these nodes and edges.
     pub fn new(
         meta: &'a Meta,
-        graph: &'a Graph,
+        graph: &'a ListGraph,
         base_nodes: &'a [PatternNode],
         base_images: &'a [ObjectNo],
         base_edge_images: &'a [EdgeNo],
         nodes: &'a [PatternNode],
         edges: &'a [PatternEdge],
     ) -> Extending<'a>
-        requires in_order { InOrder graph.now }
+        requires in_order { InOrder graph.now.graph }
         requires small { length (left_nodes nodes.now) + length (left_edges edges.now) ≤ 28 }
         requires nodes_differ { Differ base_images.now }
         requires edges_differ { Differ base_edge_images.now }
         ensures sought { sought result ≡ record {
           meta = meta.now;
-          graph = graph.now;
+          graph = graph.now.graph;
           base_nodes = base_nodes.now;
           base = record { nodes = base_images.now; edges = base_edge_images.now };
           nodes = nodes.now;
@@ -86,7 +86,7 @@ impl Extending<'_> {
     /// A number from here on that the next node's image may be.
     fn next_node_image(&self, class: ClassNo, front: &[u32], from: u64) -> Option<ObjectNo>
         requires { length front.now < self.now.node_count }
-        ensures fits { IfSome result (λ x. IsFree self.now.meta.now self.now.graph.now class
+        ensures fits { IfSome result (λ x. IsFree self.now.meta.now self.now.graph.now.graph class
             (self.now.base_images.now ++ front.now) x) }
         ensures from { IfSome result (λ x. from ≤ x) }
         ensures passed { IfSome result
@@ -134,7 +134,7 @@ impl Extending<'_> {
         requires { length front.now < self.now.node_count }
         ensures { IfSome result
             (λ link. (y : ℕ) (rest : List ℕ) → AreImages (sought self.now) (front.now ++ y ∷ rest)
-            → IsLinked self.now.graph.now link y) }
+            → IsLinked self.now.graph.now.graph link y) }
     {
         for place in 0..self.edge_count {
             if let Some(edge) = left_edge(self.edges, place) {
@@ -150,9 +150,10 @@ impl Extending<'_> {
     /// What an image of the edge says of the next object, where its other end is among these.
     fn link_of(&self, edge: &PatternEdge, front: &[ObjectNo]) -> Option<Link>
         ensures { IfSome result (λ link. (y : ℕ) (rest : List ℕ) (n : ℕ)
-            → IsImage self.now.graph.now (image (self.now.base_nodes.now ++ self.now.nodes.now)
+            → IsImage self.now.graph.now.graph
+            (image (self.now.base_nodes.now ++ self.now.nodes.now)
             (self.now.base_images.now ++ (front.now ++ y ∷ rest))) edge.now n
-            → IsLinked self.now.graph.now link y) }
+            → IsLinked self.now.graph.now.graph link y) }
     {
         let here = self.base_images.len() + front.len();
         let source = left_nodes_before(self.base_nodes, self.nodes, edge.source);

@@ -5,14 +5,14 @@ ghost use Rattle.hs_expr.specs.Lists.{Rise};
 ghost use Rattle.hs_match.specs.FirstMatch.{InOrder, IsSmall};
 
 use hs_search::MOST;
-use hs_types::{Edge, Graph, Object, Shape, count_left_edges, count_left_nodes};
+use hs_types::{Edge, ListGraph, Object, Shape, count_left_edges, count_left_nodes};
 
 /// Whether the objects and edges are in the order of their numbers, below the next ones.
-pub fn is_in_order(graph: &Graph) -> bool
-    ensures { IsTrue result ↔ InOrder graph.now }
+pub fn is_in_order(graph: &ListGraph) -> bool
+    ensures { IsTrue result ↔ InOrder graph.now.graph }
 {
-    objects_rise(graph.objects.as_slice(), graph.next_object)
-        && edges_rise(graph.edges.as_slice(), graph.next_edge)
+    objects_rise(graph.objects(), graph.next_object())
+        && edges_rise(graph.edges(), graph.next_edge())
 }
 
 fn objects_rise(objects: &[Object], next: u64) -> bool

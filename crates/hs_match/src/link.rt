@@ -5,7 +5,7 @@ ghost use Rattle.hs_match.specs.Candidates.{Ascend, IsFree, IsNextFrom};
 ghost use Rattle.hs_match.specs.Linked.{IsSmaller, IsLinked, Keeps, Takes, far_end};
 
 use crate::candidates::is_free;
-use hs_types::{ClassNo, Edge, FeatureNo, Graph, Meta, ObjectNo};
+use hs_types::{ClassNo, Edge, FeatureNo, ListGraph, Meta, ObjectNo};
 
 /// What is known of an edge of which one end is still sought.
 #[derive(Clone, Copy)]
@@ -25,19 +25,19 @@ pub enum Link {
 /// The least free object of the class from this number on to which such an edge leads.
 pub fn next_end(
     meta: &Meta,
-    graph: &Graph,
+    graph: &ListGraph,
     link: Link,
     class: ClassNo,
     base: &[ObjectNo],
     taken: &[ObjectNo],
     from: u64,
 ) -> Option<ObjectNo>
-    requires { Ascend (λ object. object.number) graph.now.objects }
-    ensures { IsNextFrom (λ y. IsFree meta.now graph.now class (base.now ++ taken.now) y
-        × IsLinked graph.now link y) from result }
+    requires { Ascend (λ object. object.number) graph.now.graph.objects }
+    ensures { IsNextFrom (λ y. IsFree meta.now graph.now.graph class (base.now ++ taken.now) y
+        × IsLinked graph.now.graph link y) from result }
 {
     let mut least = None;
-    let edges = graph.edges.as_slice();
+    let edges = graph.edges();
     for i in 0..edges.len() {
         let end = far_end(link, edges[i]);
         least = lesser(meta, graph, class, base, taken, from, end, least);
@@ -70,7 +70,7 @@ fn far_end(link: Link, edge: Edge) -> Option<ObjectNo>
 /// The lesser of the two, where the end is free.
 fn lesser(
     meta: &Meta,
-    graph: &Graph,
+    graph: &ListGraph,
     class: ClassNo,
     base: &[ObjectNo],
     taken: &[ObjectNo],
@@ -78,9 +78,11 @@ fn lesser(
     end: Option<ObjectNo>,
     least: Option<ObjectNo>,
 ) -> Option<ObjectNo>
-    requires { Ascend (λ object. object.number) graph.now.objects }
-    ensures { Takes (IsFree meta.now graph.now class (base.now ++ taken.now)) from end least result
-        ⊎ Keeps (IsFree meta.now graph.now class (base.now ++ taken.now)) from end least result }
+    requires { Ascend (λ object. object.number) graph.now.graph.objects }
+    ensures { Takes (IsFree meta.now graph.now.graph class (base.now ++ taken.now)) from end least
+        result
+        ⊎ Keeps (IsFree meta.now graph.now.graph class (base.now ++ taken.now)) from end least
+        result }
 {
     match end {
         Some(found) => {

@@ -1,10 +1,10 @@
 //! Objects and edges by number, by binary search.
 
 ghost use Rattle.std.specs.Prelude.{◌≡◌, ◌≤◌, ◌<◌, ◌↔◌, ◌++◌, ℕ, IsTrue, Some, slice_get, option_copied};
-ghost use Rattle.hs_types.specs.TypedGraph.{object_at};
+ghost use Rattle.hs_types.specs.TypedGraph.{object_numbered};
 ghost use Rattle.hs_match.specs.Candidates.{Ascend, IsFree, IsNextFrom};
 
-use hs_types::{ClassNo, Graph, Meta, Object, ObjectNo};
+use hs_types::{ClassNo, ListGraph, Meta, Object, ObjectNo};
 
 /// The place of the first object whose number is `from` or above.
 pub fn first_from(objects: &[Object], from: u64) -> usize
@@ -18,12 +18,12 @@ pub fn first_from(objects: &[Object], from: u64) -> usize
 }
 
 /// The object with this number.
-pub fn find_object(graph: &Graph, number: ObjectNo) -> Option<&Object>
-    requires { Ascend (λ object. object.number) graph.now.objects }
-    ensures { option_copied result ≡ object_at graph.now number }
+pub fn find_object(graph: &ListGraph, number: ObjectNo) -> Option<&Object>
+    requires { Ascend (λ object. object.number) graph.now.graph.objects }
+    ensures { option_copied result ≡ object_numbered graph.now.graph number }
 {
-    let place = first_from(graph.objects.as_slice(), u64::from(number));
-    match graph.objects.get(place) {
+    let place = first_from(graph.objects(), u64::from(number));
+    match object_at(graph.objects(), place) {
         Some(object) => {
             if object.number == number {
                 Some(object)
@@ -33,4 +33,10 @@ pub fn find_object(graph: &Graph, number: ObjectNo) -> Option<&Object>
         }
         None => None,
     }
+}
+
+fn object_at(objects: &[Object], place: usize) -> Option<&Object>
+    ensures { option_copied result ≡ slice_get objects.now place }
+{
+    objects.get(place)
 }

@@ -15,20 +15,20 @@ ghost use Rattle.hs_match.specs.Kernel.{kernel_search};
 use crate::Extending;
 use hs_expr::List;
 use hs_search::{Numbers, least};
-use hs_types::{Graph, Match, Meta, Rule, Shape, count_left_nodes};
+use hs_types::{ListGraph, Match, Meta, Rule, Shape, count_left_nodes};
 use std::alloc::{AllocError, Global};
 
 /// The least valid match of a rule that only adds, without arguments.
 pub fn first_match(
     alloc: Global,
     meta: &Meta,
-    graph: &Graph,
+    graph: &ListGraph,
     rule: &Rule,
 ) -> Result<Option<Match>, AllocError>
-    requires in_order { InOrder graph.now }
+    requires in_order { InOrder graph.now.graph }
     requires small { IsSmall rule.now.shape }
     requires only_adds { OnlyAdds rule.now }
-    ensures { IfOk result (IsFirst meta.now graph.now rule.now no_args) }
+    ensures { IfOk result (IsFirst meta.now graph.now.graph rule.now no_args) }
 {
     match first_images(meta, graph, &rule.shape) {
         Some(found) => Ok(Some(match_of(alloc, rule, &found)?)),
@@ -38,26 +38,26 @@ pub fn first_match(
 
 /// Whether some match of a rule that only adds is valid. It takes no memory; so there always is a
 /// least valid match, or none.
-pub fn is_applicable(meta: &Meta, graph: &Graph, rule: &Rule) -> bool
-    requires in_order { InOrder graph.now }
+pub fn is_applicable(meta: &Meta, graph: &ListGraph, rule: &Rule) -> bool
+    requires in_order { InOrder graph.now.graph }
     requires small { IsSmall rule.now.shape }
     requires only_adds { OnlyAdds rule.now }
-    ensures { (answer : Option Match) × IsFirst meta.now graph.now rule.now no_args answer
+    ensures { (answer : Option Match) × IsFirst meta.now graph.now.graph rule.now no_args answer
         × (result ≡ is_some answer) }
 {
     first_images(meta, graph, &rule.shape).is_some()
 }
 
 /// The images of the least plain match of a shape.
-fn first_images(meta: &Meta, graph: &Graph, shape: &Shape) -> Option<Numbers>
-    requires in_order { InOrder graph.now }
+fn first_images(meta: &Meta, graph: &ListGraph, shape: &Shape) -> Option<Numbers>
+    requires in_order { InOrder graph.now.graph }
     requires small { IsSmall shape.now }
     ensures least { IfSome result (λ found. IsLeastList
         (IsChoice (length (left_nodes shape.now.nodes) + length (left_edges shape.now.edges))
-        (AreImages (kernel_search meta.now graph.now shape.now))) found.items) }
+        (AreImages (kernel_search meta.now graph.now.graph shape.now))) found.items) }
     ensures none { IfNone result (IsNone
         (IsChoice (length (left_nodes shape.now.nodes) + length (left_edges shape.now.edges))
-        (AreImages (kernel_search meta.now graph.now shape.now)))) }
+        (AreImages (kernel_search meta.now graph.now.graph shape.now)))) }
 {
     let nodes = shape.nodes.as_slice();
     let edges = shape.edges.as_slice();

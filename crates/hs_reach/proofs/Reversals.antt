@@ -1,13 +1,9 @@
 -- Edges that are reversed.
-use Rattle.std.proofs.Common.{ℕ, zero, suc, ◌<◌, ◌≡◌, ◌||◌, ◌&&◌, List, [], ◌∷◌, ◌++◌, Bool, true, false, eqb, get_or, length, set, refl, ap, sym, ◌∙◌, arith}
-use Rattle.std.proofs.lemmas.Bool.{eqb-true, false≢true}
-use Rattle.std.proofs.lemmas.List.{get_or-set_other, get_or-set_same}
-use Rattle.std.proofs.lemmas.List.Folds.{list_any-append}
-use Rattle.hs_expr.specs.Lists.{has}
-use Rattle.hs_reach.specs.Reaching.{AreReversed, TargetsAreVertices, Path, advance, has_edge, has_path, stay}
+use Rattle.std.proofs.Common.{ℕ, zero, suc, ◌<◌, ◌≡◌, List, [], ◌∷◌, true, length, sym, ◌∙◌, arith}
+use Rattle.std.proofs.lemmas.Bool.{false≢true}
+use Rattle.hs_reach.specs.Reaching.{AreReversed, Path, advance, has_edge, has_path, stay}
 use Rattle.hs_expr.proofs.Booleans.{same_test}
 use Rattle.hs_reach.proofs.Paths.{has_path-from, path-from_test, through}
-use Rattle.hs_reach.proofs.Searches.{apart}
 
 reversed-path : (graph reversed : List (List ℕ)) (k n : ℕ) → AreReversed graph reversed → Path reversed k n → Path graph n k
 reversed-path graph reversed k _ are (stay _) = stay k

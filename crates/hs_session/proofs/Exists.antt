@@ -1,6 +1,5 @@
 -- Of one request there is a serial report.
 use Rattle.std.proofs.Common.{ℕ, ◌≡◌, [], ◌∷◌, false, Option, Some, None, slice_get, refl, lit<}
-use Rattle.std.specs.Arc.{arc_value}
 use Rattle.std.specs.List.{All, filter_map}
 use Rattle.hs_types.specs.declared.entry.Cause.{Cause}
 use Rattle.hs_types.specs.declared.entry.Cause.TheVariants as cause
@@ -9,7 +8,7 @@ use Rattle.hs_types.specs.declared.entry.Outcome.{Outcome}
 use Rattle.hs_types.specs.declared.entry.Outcome.TheVariants.{Applied, Missed}
 use Rattle.hs_types.specs.declared.entry.Tried.{Tried}
 use Rattle.hs_types.specs.declared.graph.Graph.{Graph}
-use Rattle.hs_types.specs.declared.graph.ListGraph.{ListGraph}
+use Rattle.hs_types.specs.Host.{RoomyGraph}
 use Rattle.hs_types.specs.declared.matching.Match.{Match}
 use Rattle.hs_types.specs.declared.meta.Metamodel.{Metamodel}
 use Rattle.hs_types.specs.declared.request.Request.{Request}
@@ -62,13 +61,13 @@ decided : (outcome : Outcome) → IsDecided (first_reply outcome)
 decided (Applied found new old gone) = ((λ e. cc), (λ e. cc))
 decided Missed = ((λ e. cc), (λ e. cc))
 
-pub one_exists : (rules : Rules) (listed : ListGraph) (opening : Graph) (request : Request) (called : ℕ) (rule : Rule) (answer : Option Match) → IsTyped rules.meta opening →
-    callee_named rules request.call ≡ Some (callee.Rule called) → slice_get rules.rules called ≡ Some rule → IsRunnable opening rule → request.args ≡ no_args → request.group ≡ false → arc_value listed.meta ≡ rules.meta → AdditionsOnlyMake → IsFirst rules.meta opening rule no_args answer →
+pub one_exists : (rules : Rules) (listed : RoomyGraph) (opening : Graph) (request : Request) (called : ℕ) (rule : Rule) (answer : Option Match) → IsTyped rules.meta opening →
+    callee_named rules request.call ≡ Some (callee.Rule called) → slice_get rules.rules called ≡ Some rule → IsRunnable opening rule → request.args ≡ no_args → request.group ≡ false → listed.meta ≡ rules.meta → AdditionsOnlyMake → IsFirst rules.meta opening rule no_args answer →
     (report : Report) × IsSerialReport rules opening ((request ∷ []) ∷ []) report × All IsDecided report.replies
 one_exists rules listed opening request called rule answer typed named found runs args single model adds first =
     let outcome = outcome_of rules.meta opening rule answer in
     let tried : Tried = record { attempt = 0; rule = called; args = no_args; outcome = outcome; attempt_bound = lit< tt } in
-    let graph : ListGraph = record { meta = listed.meta; graph = after_outcome rules.meta opening rule no_args outcome } in
+    let graph : RoomyGraph = record { meta = listed.meta; graph = after_outcome rules.meta opening rule no_args outcome; spare_objects = listed.spare_objects; spare_edges = listed.spare_edges } in
     let made : IsFirstTry rules opening request rule tried = record {
       called = named;
       found = found;

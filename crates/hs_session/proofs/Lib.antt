@@ -13,3 +13,4 @@ pub mod TriedOnce
 pub mod Tries
 pub mod Unique
 pub mod Written
+pub mod Makes

@@ -17,7 +17,7 @@ use Rattle.hs_types.specs.Journal.{match_named}
 use Rattle.hs_expr.specs.Lists.{Differ, map_all, same_text}
 use Rattle.hs_types.specs.Pattern.{left_nodes}
 use Rattle.hs_types.specs.PlainMatch.{kernel_of}
-use Rattle.hs_types.specs.TypedGraph.{IsOf, IsTyped, name_at, object_at, object_named}
+use Rattle.hs_types.specs.TypedGraph.{IsOf, IsTyped, name_at, object_numbered, object_named}
 use Rattle.hs_types.specs.ValidMatch.{IsValid}
 use Rattle.hs_types.specs.Arguments.{no_args}
 use Rattle.hs_types.proofs.Lookups.{object_there}
@@ -42,7 +42,7 @@ object-again g p x differ e = ap (option_map (λ o. o.number)) (found_again (λ 
 
 -- At this number is an object.
 abbrev Stands-at : Graph → ℕ → Type 0
-Stands-at g n = (x : Object) × (object_at g n ≡ Some x)
+Stands-at g n = (x : Object) × (object_numbered g n ≡ Some x)
 
 names_again : (m : Metamodel) (g : Graph) (ns : List ℕ) → IsTyped m g → All (Stands-at g) ns → map_all (object_named g) (filter_map (name_at g) ns) ≡ Some ns
 names_again m g [] typed all = refl

@@ -1,7 +1,6 @@
 -- The report of one request is serial.
 use Rattle.std.proofs.Common.{ℕ, zero, suc, ◌≤◌, ◌≡◌, [], ◌∷◌, List, false, Option, Some, None, slice_get, refl, ap, sym, ◌∙◌, arith, take, inl, inr, subst}
 use Rattle.std.specs.Prelude.{IfSome}
-use Rattle.std.specs.Arc.{arc_value}
 use Rattle.std.specs.Option.{option_map, unwrap_or}
 use Rattle.std.proofs.lemmas.List.Elements.{All-nil}
 use Rattle.hs_types.specs.declared.entry.Cause.{Cause}
@@ -12,7 +11,7 @@ use Rattle.hs_types.specs.declared.entry.Outcome.TheVariants.{Applied, Missed}
 use Rattle.hs_types.specs.declared.entry.Tried.{Tried}
 use Rattle.hs_types.specs.declared.entry.What.TheVariants.{One}
 use Rattle.hs_types.specs.declared.graph.Graph.{Graph}
-use Rattle.hs_types.specs.declared.graph.ListGraph.{ListGraph}
+use Rattle.hs_types.specs.Host.{RoomyGraph}
 use Rattle.hs_types.specs.declared.matching.Match.{Match}
 use Rattle.hs_types.specs.declared.request.Request.{Request}
 use Rattle.hs_types.specs.declared.rule.Param.{Param}
@@ -149,8 +148,8 @@ module _ (rules : Rules) (opening : Graph) (request : Request) (rule : Rule) (tr
   }
 
 -- One attempt at the least match, or none where none is valid, makes a serial report.
-pub serial_one : (rules : Rules) (opening : Graph) (request : Request) (rule : Rule) (tried : Tried) (graph : ListGraph) → IsFirstTry rules opening request rule tried →
-    graph.graph ≡ after_outcome rules.meta opening rule no_args tried.outcome → arc_value graph.meta ≡ rules.meta →
+pub serial_one : (rules : Rules) (opening : Graph) (request : Request) (rule : Rule) (tried : Tried) (graph : RoomyGraph) → IsFirstTry rules opening request rule tried →
+    graph.graph ≡ after_outcome rules.meta opening rule no_args tried.outcome → graph.meta ≡ rules.meta →
     IsSerialReport rules opening ((request ∷ []) ∷ []) (record { journal = first_entry tried ∷ []; replies = first_reply tried.outcome ∷ []; graph = graph })
 serial_one rules opening request rule tried graph made after model = record {
   lawful = record {
@@ -169,7 +168,7 @@ serial_one rules opening request rule tried graph made after model = record {
     lawful (suc place) = tt
 
 -- The same of the outcome that the attempt carries.
-pub serial_told : (rules : Rules) (opening : Graph) (request : Request) (rule : Rule) (tried : Tried) (graph : ListGraph) (outcome : Outcome) → IsFirstTry rules opening request rule tried → tried.outcome ≡ outcome →
-    graph.graph ≡ after_outcome rules.meta opening rule no_args outcome → arc_value graph.meta ≡ rules.meta →
+pub serial_told : (rules : Rules) (opening : Graph) (request : Request) (rule : Rule) (tried : Tried) (graph : RoomyGraph) (outcome : Outcome) → IsFirstTry rules opening request rule tried → tried.outcome ≡ outcome →
+    graph.graph ≡ after_outcome rules.meta opening rule no_args outcome → graph.meta ≡ rules.meta →
     IsSerialReport rules opening ((request ∷ []) ∷ []) (record { journal = first_entry tried ∷ []; replies = first_reply outcome ∷ []; graph = graph })
 serial_told rules opening request rule tried graph outcome made same after model = rw (← same) (serial_one rules opening request rule tried graph made (after ∙ ap (after_outcome rules.meta opening rule no_args) (sym same)) model)

@@ -1,7 +1,6 @@
 -- Lawful reports: a lawful journal, its graph, and to each request the reply that its entries call
 -- for.
 use Rattle.std.specs.Prelude.{◌≡◌, List}
-use Rattle.std.specs.Arc.{arc_value}
 use Rattle.std.specs.List.{All, AllZip}
 use Rattle.hs_types.specs.declared.graph.Graph.{Graph}
 use Rattle.hs_types.specs.declared.request.Request.{Request}
@@ -19,4 +18,4 @@ pub record IsLawfulReport (rules : Rules) (opening : Graph) (sessions : List (Li
   pub all_were_asked : All (IsAsked sessions) report.journal
   pub answered : AllZip (RepliesTo rules opening report.journal) (all_asked sessions) report.replies
   pub graph_after : report.graph.graph ≡ after_journal rules opening report.journal
-  pub same_model : arc_value report.graph.meta ≡ rules.meta
+  pub same_model : report.graph.meta ≡ rules.meta

@@ -1,5 +1,5 @@
 -- What a run asks of a rule that it applies once, without arguments.
-use Rattle.std.specs.Prelude.{◌+◌, ◌^◌, ◌≤◌, ◌≡◌, [], length}
+use Rattle.std.specs.Prelude.{◌+◌, ◌≤◌, ◌≡◌, [], length}
 use Rattle.hs_types.specs.declared.limits.TheConstants.{MAX_NUMBERS}
 use Rattle.hs_types.specs.declared.entry.Outcome.{Outcome}
 use Rattle.hs_types.specs.declared.entry.Outcome.TheVariants.{Applied, Missed}
@@ -10,11 +10,10 @@ use Rattle.hs_match.specs.FirstMatch.{IsSmall}
 use Rattle.hs_session.specs.declared.report.Word.{Word}
 use Rattle.hs_session.specs.declared.report.Word.TheVariants as word
 
--- Numbers and names are left for what the rule makes.
+-- Numbers are left for what the rule makes.
 pub record HasRoomFor (g : Graph) (rule : Rule) : Type 0 where
   pub objects : g.next_object + length rule.shape.nodes ≤ MAX_NUMBERS
   pub edges : g.next_edge + length rule.shape.edges ≤ MAX_NUMBERS
-  pub names : g.next_name + length rule.shape.nodes ≤ 2 ^ 63
 
 -- A rule without parameters that only adds; few enough elements for a search, and room for what it
 -- makes.

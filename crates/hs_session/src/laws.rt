@@ -1,7 +1,6 @@
 //! Laws of reports, and that the serial report is one.
 
 ghost use Rattle.std.specs.Prelude.{◌≡◌, ◌⊎◌, ◌∷◌, ℕ, List, [], IsSome, IsSomeAnd, Some, false, slice_get};
-ghost use Rattle.std.specs.Arc.{arc_value};
 ghost use Rattle.std.specs.List.{All, enumerate_from};
 ghost use Rattle.hs_types.specs.declared.graph.Graph.{Graph};
 ghost use Rattle.hs_types.specs.declared.request.Args.{Args};
@@ -62,8 +61,7 @@ pub fn rules_are_tried_once()
 /// serial report in which it was served to its end: there is one, and two such reports have the
 /// same journal, replies and graph.
 pub fn one_serial_report(graph: &ListGraph, rules: &RuleSet, called: u16, request: &Request)
-    requires same_model { arc_value graph.now.meta ≡ rules.now.meta }
-    requires typed { IsTyped rules.now.meta graph.now.graph }
+    requires same_model { graph.now.meta ≡ rules.now.meta }
     requires called { callee_named rules.now request.now.call ≡ Some (callee.Rule called) }
     requires runnable { IsSomeAnd (slice_get rules.now.rules called) (IsRunnable graph.now.graph) }
     requires no_arguments { request.now.args ≡ no_args }
@@ -80,5 +78,5 @@ pub fn one_serial_report(graph: &ListGraph, rules: &RuleSet, called: u16, reques
     serial_reports_are_one();
     additions_only_make();
     // The search takes no memory, so its answer is always there.
-    let _ = is_applicable(&graph.meta, &graph.graph, rule_at(rules, called));
+    let _ = is_applicable(graph.meta(), graph, rule_at(rules, called));
 }

@@ -1,14 +1,14 @@
 //! Running requests one after another.
 
-ghost use Rattle.std.specs.Prelude.{◌≡◌, ◌∷◌, [], IfOk, IsSome, IsSomeAnd, Some, false, slice_get};
-ghost use Rattle.std.specs.Arc.{arc_value};
+ghost use Rattle.std.specs.Prelude.{◌≡◌, ◌≤◌, ◌∷◌, [], IfOk, IsSome, IsSomeAnd, Some, false, slice_get, map, drop, length};
 ghost use Rattle.std.specs.List.{All, filter_map};
 ghost use Rattle.hs_types.specs.declared.entry.Cause.{Cause};
 ghost use Rattle.hs_types.specs.declared.unit.Callee.TheVariants as callee;
 ghost use Rattle.hs_types.specs.Journal.{OutcomeAsks, after_outcome, match_named};
+ghost use Rattle.hs_types.specs.Limits.{IsSmallRule};
 ghost use Rattle.hs_types.specs.RuleForm.{IsRule};
 ghost use Rattle.hs_types.specs.Rules.{Rules};
-ghost use Rattle.hs_types.specs.TypedGraph.{IsTyped, name_at};
+ghost use Rattle.hs_types.specs.TypedGraph.{name_at};
 ghost use Rattle.hs_types.specs.ValidMatch.{IsLeast, IsValid};
 ghost use Rattle.hs_types.specs.Arguments.{no_args};
 ghost use Rattle.hs_types.specs.Additions.{OnlyAdds};
@@ -18,13 +18,14 @@ ghost use Rattle.hs_session.specs.SerialReport.{IsLeastOutcome, IsSerialReport};
 ghost use Rattle.hs_session.specs.Standing.{no_outs};
 
 use crate::report::{Reply, Report, Word};
-use hs_apply::{Stepped, install, plan};
+use hs_apply::laws::additions_only_make;
+use hs_apply::plan;
 use hs_expr::{List, Text};
 use hs_laws::plans_fit;
 use hs_match::first_match;
 use hs_types::{
-    Entry, Graph, ListGraph, Match, MatchNames, Meta, ObjectNo, Outcome, Outs, Request, Rule,
-    RuleSet, Tried, What,
+    Args, Entry, Host, ListGraph, Match, MatchNames, Object, ObjectNo, Outcome, Outs, Request,
+    Rule, RuleSet, Tried, What,
 };
 use std::alloc::{AllocError, Global};
 
@@ -32,7 +33,7 @@ use std::alloc::{AllocError, Global};
 #[derive(Debug, Drop)]
 struct Attempted {
     outcome: Outcome,
-    graph: Graph,
+    graph: ListGraph,
 }
 
 /// Runs one request of one session, which calls the rule at this place without arguments and isn't
@@ -44,8 +45,7 @@ pub fn run_serial(
     called: u16,
     request: &Request,
 ) -> Result<Report, AllocError>
-    requires same_model { arc_value graph.meta ≡ rules.now.meta }
-    requires typed { IsTyped rules.now.meta graph.graph }
+    requires same_model { graph.meta ≡ rules.now.meta }
     requires called { callee_named rules.now request.now.call ≡ Some (callee.Rule called) }
     requires runnable { IsSomeAnd (slice_get rules.now.rules called) (IsRunnable graph.graph) }
     requires no_arguments { request.now.args ≡ no_args }
@@ -53,9 +53,8 @@ pub fn run_serial(
     ensures { IfOk result (IsSerialReport rules.now graph.graph ((request.now ∷ []) ∷ [])) }
 {
     rules.are_formed();
-    let ListGraph { meta, graph } = graph;
     let rule = rule_at(rules, called);
-    let Attempted { outcome, graph } = attempt(alloc, &meta, graph, rule)?;
+    let Attempted { outcome, graph } = attempt(alloc, graph, rule)?;
     let reply = reply_of(alloc, &outcome)?;
     let tried = first_try(called, request, outcome)?;
     let entry = Entry {
@@ -66,13 +65,13 @@ pub fn run_serial(
     Ok(Report {
         journal: one(alloc, entry)?,
         replies: one(alloc, reply)?,
-        graph: ListGraph { meta, graph },
+        graph,
     })
 }
 
 /// The report of a run in which nothing is asked for: the graph as it was.
 pub fn run_nothing(alloc: Global, graph: ListGraph) -> Report
-    ensures { (rules : Rules) → arc_value graph.meta ≡ rules.meta
+    ensures { (rules : Rules) → graph.meta ≡ rules.meta
         → IsSerialReport rules graph.graph [] result }
 {
     Report {
@@ -145,18 +144,20 @@ fn outcome_word(outcome: &Outcome) -> Word
 }
 
 /// Applies the rule at its least valid match, or misses where there is none.
-fn attempt(alloc: Global, meta: &Meta, graph: Graph, rule: &Rule) -> Result<Attempted, AllocError>
-    requires form { IsRule meta.now rule.now }
-    requires typed { IsTyped meta.now graph }
-    requires runnable { IsRunnable graph rule.now }
-    ensures lawful { IfOk result
-        (λ a. (asked : Cause) → OutcomeAsks meta.now graph rule.now no_args a.outcome asked) }
-    ensures least { IfOk result (λ a. IsLeastOutcome meta.now graph rule.now no_args a.outcome) }
+fn attempt(alloc: Global, graph: ListGraph, rule: &Rule) -> Result<Attempted, AllocError>
+    requires form { IsRule graph.meta rule.now }
+    requires small { IsSmallRule rule.now }
+    requires runnable { IsRunnable graph.graph rule.now }
+    ensures lawful { IfOk result (λ a. (asked : Cause)
+        → OutcomeAsks graph.meta graph.graph rule.now no_args a.outcome asked) }
+    ensures least { IfOk result
+        (λ a. IsLeastOutcome graph.meta graph.graph rule.now no_args a.outcome) }
     ensures after { IfOk result
-        (λ a. a.graph ≡ after_outcome meta.now graph rule.now no_args a.outcome) }
+        (λ a. a.graph.graph ≡ after_outcome graph.meta graph.graph rule.now no_args a.outcome) }
+    ensures meta { IfOk result (λ a. a.graph.meta ≡ graph.meta) }
 {
-    match first_match(alloc, meta, &graph, rule)? {
-        Some(found) => applied(alloc, meta, graph, rule, found),
+    match first_match(alloc, graph.meta(), &graph, rule)? {
+        Some(found) => applied(alloc, graph, rule, found),
         None => Ok(Attempted {
             outcome: Outcome::Missed,
             graph,
@@ -166,49 +167,68 @@ fn attempt(alloc: Global, meta: &Meta, graph: Graph, rule: &Rule) -> Result<Atte
 
 fn applied(
     alloc: Global,
-    meta: &Meta,
-    graph: Graph,
+    graph: ListGraph,
     rule: &Rule,
     found: Match,
 ) -> Result<Attempted, AllocError>
-    requires form { IsRule meta.now rule.now }
-    requires typed { IsTyped meta.now graph }
-    requires runnable { IsRunnable graph rule.now }
-    requires least { IsLeast meta.now graph rule.now no_args found }
-    ensures lawful { IfOk result
-        (λ a. (asked : Cause) → OutcomeAsks meta.now graph rule.now no_args a.outcome asked) }
-    ensures least { IfOk result (λ a. IsLeastOutcome meta.now graph rule.now no_args a.outcome) }
+    requires form { IsRule graph.meta rule.now }
+    requires small { IsSmallRule rule.now }
+    requires runnable { IsRunnable graph.graph rule.now }
+    requires least { IsLeast graph.meta graph.graph rule.now no_args found }
+    ensures lawful { IfOk result (λ a. (asked : Cause)
+        → OutcomeAsks graph.meta graph.graph rule.now no_args a.outcome asked) }
+    ensures least { IfOk result
+        (λ a. IsLeastOutcome graph.meta graph.graph rule.now no_args a.outcome) }
     ensures after { IfOk result
-        (λ a. a.graph ≡ after_outcome meta.now graph rule.now no_args a.outcome) }
+        (λ a. a.graph.graph ≡ after_outcome graph.meta graph.graph rule.now no_args a.outcome) }
+    ensures meta { IfOk result (λ a. a.graph.meta ≡ graph.meta) }
 {
     // The laws on plans are what `install` asks.
-    meta.is_metamodel();
+    graph.meta().is_metamodel();
     plans_fit();
-    let plan = plan(alloc, meta, rule, &found)?;
-    let found = names_of_match(alloc, meta, &graph, rule, found)?;
-    let Stepped { graph, new } = install(alloc, graph, &plan)?;
+    additions_only_make();
+    let mut graph = graph;
+    let args = Args {
+        list: List::new(alloc),
+    };
+    let mut plan = plan(alloc, &graph, rule, &args, &found)?;
+    let found = names_of_match(alloc, &graph, rule, found)?;
+    let count = graph.objects().len();
+    graph.install(&mut plan)?;
     let outcome = Outcome::Applied {
         found,
-        new,
+        new: names_from(alloc, graph.objects(), count)?,
         old: List::new(alloc),
         gone: List::new(alloc),
     };
     Ok(Attempted { outcome, graph })
 }
 
+/// The names of the objects from this place on.
+fn names_from(alloc: Global, objects: &[Object], place: usize) -> Result<List<Text>, AllocError>
+    requires { place ≤ length objects.now }
+    ensures { IfOk result
+        (λ names. names ≡ map (λ object. object.name) (drop place objects.now)) }
+{
+    let mut names = List::new(alloc);
+    for object in &objects[place..] {
+        names.push(object.name.clone()?)?;
+    }
+    Ok(names)
+}
+
 /// A valid match with its objects by name.
 fn names_of_match(
     alloc: Global,
-    meta: &Meta,
-    graph: &Graph,
+    graph: &ListGraph,
     rule: &Rule,
     found: Match,
 ) -> Result<MatchNames, AllocError>
-    requires typed { IsTyped meta.now graph.now }
     requires only_adds { OnlyAdds rule.now }
-    requires valid { IsValid meta.now graph.now rule.now no_args found }
-    ensures { IfOk result (λ names. match_named graph.now names ≡ Some found) }
+    requires valid { IsValid graph.now.meta graph.now.graph rule.now no_args found }
+    ensures { IfOk result (λ names. match_named graph.now.graph names ≡ Some found) }
 {
+    graph.meta();
     Ok(MatchNames {
         nodes: names_of(alloc, graph, found.nodes.as_slice())?,
         edges: found.edges,
@@ -217,8 +237,12 @@ fn names_of_match(
 }
 
 /// The names of the objects at these numbers.
-fn names_of(alloc: Global, graph: &Graph, numbers: &[ObjectNo]) -> Result<List<Text>, AllocError>
-    ensures { IfOk result (λ names. names ≡ filter_map (name_at graph.now) numbers.now) }
+fn names_of(
+    alloc: Global,
+    graph: &ListGraph,
+    numbers: &[ObjectNo],
+) -> Result<List<Text>, AllocError>
+    ensures { IfOk result (λ names. names ≡ filter_map (name_at graph.now.graph) numbers.now) }
 {
     let mut names = List::new(alloc);
     for number in numbers {

@@ -1,9 +1,7 @@
-//! Conformance and look-ups.
+//! Conformance.
 
-use hs_expr::{List, Text, Value};
 use hs_tests_model::model_of;
-use hs_types::{Edge, Graph, Object, Slot};
-use std::alloc::{AllocError, Global};
+use std::alloc::Global;
 
 /// Class 3 is below 2 and 0, 2 below 1, and 1 below 0, which is abstract, as is 4, which is
 /// alone.
@@ -46,48 +44,4 @@ fn counts_concrete_classes_alone(rt: HostRuntime) {
     ] {
         assert!(rt; have_common(rt.alloc(), one, other) == Some(want));
     }
-}
-
-fn sample_graph(alloc: Global) -> Result<Graph, AllocError> {
-    let slots = List::from_vec(vec![in alloc;
-        Slot {
-            attribute: 2,
-            value: Value::Int(7)
-        },
-    ]?);
-    let first = Object {
-        number: 3,
-        name: Text::from_str(alloc, "first")?,
-        class: 1,
-        slots,
-    };
-    let second = Object {
-        number: 5,
-        name: Text::from_str(alloc, "second")?,
-        class: 0,
-        slots: List::new(alloc),
-    };
-    let edges: List<Edge> = List::new(alloc);
-    Ok(Graph {
-        objects: List::from_vec(vec![in alloc; first, second]?),
-        edges,
-        next_object: 6,
-        next_edge: 0,
-        next_name: 0,
-    })
-}
-
-#[test]
-fn looks_objects_up(rt: HostRuntime) -> Result<(), AllocError> {
-    let graph = sample_graph(rt.alloc())?;
-    assert!(rt; graph.class_of(3) == Some(1));
-    assert!(rt; graph.class_of(4).is_none());
-    assert!(rt; graph.named("second") == Some(5));
-    assert!(rt; graph.named("third").is_none());
-    assert!(rt; graph.name_of(5) == Some("second"));
-    assert!(rt; graph.name_of(6).is_none());
-    assert!(rt; graph.slot(3, 2) == Some(&Value::Int(7)));
-    assert!(rt; graph.slot(3, 1).is_none());
-    assert!(rt; graph.slot(5, 2).is_none());
-    Ok(())
 }

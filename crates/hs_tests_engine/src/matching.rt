@@ -2,45 +2,26 @@
 
 use hs_expr::{List, Text};
 use hs_match::{first_match, is_in_order, is_small};
-use hs_tests_model::model_of;
-use hs_types::{Edge, Graph, Mark, Match, Object, PatternEdge, PatternNode, Rule, Shape};
+use hs_tests_model::graph_of;
+use hs_types::{Mark, Match, PatternEdge, PatternNode, Rule, Shape};
 use std::alloc::{AllocError, Global};
 
-/// The class 1 is below the class 0, and the class 2 is apart.
-const CLASSES: &str = r#"{"classes":[{"name":"A"},{"name":"B","supers":["A"]},{"name":"C"}]}"#;
+/// A bundle whose class 1 is below the class 0, which has the reference 0 to the class 2, with
+/// objects of the classes 2, 0, 1 and 2. Two parallel edges lead from object 1 to object 3, one
+/// from object 2 to each of the objects 3 and 0.
+const JOINED: &str =
+    r#"{"meta":{"classes":[{"name":"A","references":[{"name":"to","target":"C","upper":-1}]},{"name":"B","supers":["A"]},{"name":"C"}]},"graph":[{"name":"c","class":"C"},{"name":"a","class":"A","refs":{"to":["d","d"]}},{"name":"b","class":"B","refs":{"to":["d","c"]}},{"name":"d","class":"C"}]}"#;
 
-/// Objects of these classes and edges between them, numbered from 0.
-fn graph_of(alloc: Global, classes: &[u16], joins: &[(u32, u32)]) -> Result<Graph, AllocError> {
-    let mut objects = List::new(alloc);
-    let mut next_object: u32 = 0;
-    for class in classes {
-        objects.push(Object {
-            number: next_object,
-            name: Text::from_str(alloc, "object")?,
-            class: *class,
-            slots: List::new(alloc),
-        })?;
-        next_object = next_object.saturating_add(1);
-    }
-    let mut edges = List::new(alloc);
-    let mut next_edge: u32 = 0;
-    for (source, target) in joins {
-        edges.push(Edge {
-            number: next_edge,
-            source: *source,
-            reference: 0,
-            target: *target,
-        })?;
-        next_edge = next_edge.saturating_add(1);
-    }
-    Ok(Graph {
-        objects,
-        edges,
-        next_object: u64::from(next_object),
-        next_edge: u64::from(next_edge),
-        next_name: 0,
-    })
-}
+/// The same classes, and one edge from an object of class 0 to one of class 2.
+const ONE_EDGE: &str =
+    r#"{"meta":{"classes":[{"name":"A","references":[{"name":"to","target":"C","upper":-1}]},{"name":"C"}]},"graph":[{"name":"a","class":"A","refs":{"to":["c"]}},{"name":"c","class":"C"}]}"#;
+
+/// Two such edges.
+const TWO_EDGES: &str =
+    r#"{"meta":{"classes":[{"name":"A","references":[{"name":"to","target":"C","upper":-1}]},{"name":"C"}]},"graph":[{"name":"a","class":"A","refs":{"to":["c","c"]}},{"name":"c","class":"C"}]}"#;
+
+/// No object.
+const EMPTY: &str = r#"{"meta":{"classes":[]}}"#;
 
 /// A rule that keeps nodes of these classes and edges between them.
 fn rule_of(alloc: Global, classes: &[u16], joins: &[(u16, u16)]) -> Result<Rule, AllocError> {
@@ -91,21 +72,20 @@ fn is(found: &Option<Match>, nodes: &[u32], edges: &[u32]) -> bool {
     }
 }
 
-/// Whether the least match of the nodes and edges, in the graph of these objects and edges, is this
-/// one.
+/// Whether the least match of the nodes and edges, in the graph of the bundle, is this one.
 fn finds(
     alloc: Global,
-    objects: (&[u16], &[(u32, u32)]),
+    bundle: &str,
     pattern: (&[u16], &[(u16, u16)]),
     want: (&[u32], &[u32]),
 ) -> Result<bool, AllocError> {
-    let Some(meta) = model_of(alloc, CLASSES) else {
+    let Some(graph) = graph_of(alloc, bundle) else {
         return Ok(false);
     };
-    let graph = graph_of(alloc, objects.0, objects.1)?;
     let rule = rule_of(alloc, pattern.0, pattern.1)?;
     if is_in_order(&graph) && is_small(&rule.shape) && rule.only_adds() {
-        Ok(is(&first_match(alloc, &meta, &graph, &rule)?, want.0, want.1))
+        let found = first_match(alloc, graph.meta(), &graph, &rule)?;
+        Ok(is(&found, want.0, want.1))
     } else {
         Ok(false)
     }
@@ -113,29 +93,21 @@ fn finds(
 
 #[test]
 fn finds_the_least(rt: HostRuntime) -> Result<(), AllocError> {
-    let graph: (&[u16], &[(u32, u32)]) = (&[2, 0, 1, 2], &[(2, 3), (2, 0), (1, 3), (1, 3)]);
-    assert!(rt; finds(rt.alloc(), graph, (&[0, 2], &[(0, 1)]), (&[1, 3], &[2]))?);
-    assert!(rt; finds(rt.alloc(), graph, (&[2, 0], &[(1, 0)]), (&[0, 2], &[1]))?);
+    assert!(rt; finds(rt.alloc(), JOINED, (&[0, 2], &[(0, 1)]), (&[1, 3], &[0]))?);
+    assert!(rt; finds(rt.alloc(), JOINED, (&[2, 0], &[(1, 0)]), (&[0, 2], &[3]))?);
     Ok(())
 }
 
 #[test]
 fn takes_nothing_twice(rt: HostRuntime) -> Result<(), AllocError> {
-    let twice: (&[u16], &[(u16, u16)]) = (&[0, 2], &[(0, 1), (0, 1)]);
-    assert!(rt; !finds(rt.alloc(), (&[0, 2], &[(0, 1)]), twice, (&[0, 1], &[0, 0]))?);
-    assert!(rt;
-        finds(
-            rt.alloc(),
-            (&[0, 2], &[(0, 1), (0, 1)]),
-            twice,
-            (&[0, 1], &[0, 1])
-        )?
-    );
+    let twice: (&[u16], &[(u16, u16)]) = (&[0, 1], &[(0, 1), (0, 1)]);
+    assert!(rt; !finds(rt.alloc(), ONE_EDGE, twice, (&[0, 1], &[0, 0]))?);
+    assert!(rt; finds(rt.alloc(), TWO_EDGES, twice, (&[0, 1], &[0, 1]))?);
     Ok(())
 }
 
 #[test]
 fn matches_nothing_by_nothing(rt: HostRuntime) -> Result<(), AllocError> {
-    assert!(rt; finds(rt.alloc(), (&[], &[]), (&[], &[]), (&[], &[]))?);
+    assert!(rt; finds(rt.alloc(), EMPTY, (&[], &[]), (&[], &[]))?);
     Ok(())
 }

@@ -1,110 +1,150 @@
 //! Plans.
 
+ghost use Rattle.std.specs.Prelude.{IfSome, option_copied};
+ghost use Rattle.hs_types.specs.Limits.{IsSmallRule};
+
 use hs_apply::plan;
 use hs_expr::{List, Text, Value};
-use hs_tests_model::model_of;
-use hs_types::{End, MadeEdge, Mark, Match, PatternEdge, PatternNode, Rule, Shape};
+use hs_input::{Input, read_input};
+use hs_types::{
+    Arg, Args, End, Extension, MadeEdge, MadeObject, Match, NamedArg, Plan, Rule, RuleSet, Slot,
+    SlotKind, Write,
+};
 use std::alloc::{AllocError, Global};
-use std::test::Fail;
 
-/// A list of these items.
-fn list_of<T: Drop>(alloc: Global, first: T, second: T) -> Result<List<T>, AllocError> {
-    let mut list = List::new(alloc);
-    list.push(first)?;
-    list.push(second)?;
-    Ok(list)
+/// A client with three accounts, whose balance is 5 where none is given. `share` closes one of
+/// them, opens one with a balance that is given, and for each other account, which gets that much more,
+/// one that takes its place at the client.
+const BUNDLE: &str =
+    r##"{"meta":{"classes":[{"name":"Client","references":[{"name":"accounts","target":"Account","upper":-1}]},{"name":"Account","attributes":[{"name":"balance","type":"EInt","default":5}]}]},"graph":[{"name":"ann","class":"Client","refs":{"accounts":["a","b","x"]}},{"name":"a","class":"Account"},{"name":"b","class":"Account","attrs":{"balance":7}},{"name":"x","class":"Account"}],"rules":"rule share(in more: int) { preserve node c: Client; delete node x: Account; delete edge c -> x: accounts; create node n: Account; create edge c -> n: accounts; set n.balance = more; multi { preserve node a: Account; delete edge c -> a: accounts; create node m: Account; create edge c -> m: accounts; set a.balance = a.balance + more; } }"}"##;
+
+fn numbers(alloc: Global, numbers: &[u32]) -> Result<List<u32>, AllocError> {
+    Ok(List::from_vec(Vec::from_slice(alloc, numbers)?))
 }
 
-/// Clients with accounts; an account has a balance, which is 5 at first.
-const MODEL: &str =
-    r#"{"classes":[{"name":"Client","references":[{"name":"accounts","target":"Account","upper":-1}]},{"name":"Account","attributes":[{"name":"balance","type":"EInt","default":5}]}]}"#;
-
-fn node(alloc: Global, name: &str, class: u16, mark: Mark) -> Result<PatternNode, AllocError> {
-    Ok(PatternNode {
-        name: Text::from_str(alloc, name)?,
-        class,
-        mark,
+fn copy(alloc: Global, node: u32, edge: u32) -> Result<Extension, AllocError> {
+    Ok(Extension {
+        nodes: numbers(alloc, &[node])?,
+        edges: numbers(alloc, &[edge])?,
     })
 }
 
-fn edge(source: u16, target: u16) -> PatternEdge {
-    PatternEdge {
-        source,
-        reference: 0,
-        target,
-        mark: Mark::Make,
+fn copies(alloc: Global) -> Result<List<List<Extension>>, AllocError> {
+    let mut found = List::new(alloc);
+    found.push(copy(alloc, 1, 0)?)?;
+    found.push(copy(alloc, 2, 1)?)?;
+    let mut lists = List::new(alloc);
+    lists.push(found)?;
+    Ok(lists)
+}
+
+/// The match that closes `x`, with a copy for each of the other accounts.
+fn found(alloc: Global) -> Result<Match, AllocError> {
+    Ok(Match {
+        nodes: numbers(alloc, &[0, 3])?,
+        edges: numbers(alloc, &[2])?,
+        copies: copies(alloc)?,
+    })
+}
+
+fn three_more(alloc: Global) -> Result<Args, AllocError> {
+    let mut list = List::new(alloc);
+    list.push(NamedArg {
+        name: Text::from_str(alloc, "more")?,
+        arg: Arg::Value(Value::Int(3)),
+    })?;
+    Ok(Args { list })
+}
+
+/// The first rule, which is within the limits.
+fn first_rule(rules: &RuleSet) -> Option<&Rule>
+    ensures { IfSome (option_copied result) IsSmallRule }
+{
+    rules.are_formed();
+    rules.rules.get(0)
+}
+
+/// The plan of the rule at the match, for three more.
+fn planned(alloc: Global) -> Result<Option<Plan>, AllocError> {
+    let Ok(Input { graph, rules, .. }) = read_input(alloc, BUNDLE.as_bytes()) else {
+        return Ok(None);
+    };
+    match first_rule(&rules) {
+        Some(rule) => {
+            let plan = plan(alloc, &graph, rule, &three_more(alloc)?, &found(alloc)?)?;
+            Ok(Some(plan))
+        }
+        None => Ok(None),
     }
 }
 
-/// Two accounts are opened for a client, the second one first.
-fn opens_two(alloc: Global) -> Result<Rule, AllocError> {
-    let mut nodes = list_of(
-        alloc,
-        node(alloc, "a", 1, Mark::Make)?,
-        node(alloc, "c", 0, Mark::Keep)?,
-    )?;
-    nodes.push(node(alloc, "b", 1, Mark::Make)?)?;
-    Ok(Rule {
-        name: Text::from_str(alloc, "open")?,
-        params: List::new(alloc),
-        shape: Shape {
-            nodes,
-            edges: list_of(alloc, edge(1, 2), edge(1, 0))?,
-            slots: List::new(alloc),
-        },
-        forbids: List::new(alloc),
-        needs: List::new(alloc),
-        multis: List::new(alloc),
-        wheres: List::new(alloc),
-        sets: List::new(alloc),
-    })
+fn is_write(write: Option<&Write>, object: u32, balance: i64) -> bool {
+    match write {
+        Some(write) => {
+            write.object == object
+                && write.slot == SlotKind::Attribute(1)
+                && write.value == Value::Int(balance)
+        }
+        None => false,
+    }
 }
 
-/// A match of one node.
-fn found_at(alloc: Global, object: u32) -> Result<Match, AllocError> {
-    let mut nodes = List::new(alloc);
-    nodes.push(object)?;
-    Ok(Match {
-        nodes,
-        edges: List::new(alloc),
-        copies: List::new(alloc),
-    })
+fn is_account(object: Option<&MadeObject>, balance: i64) -> bool {
+    match object {
+        Some(object) => object.class() == 1 && has_balance(object.slots(), balance),
+        None => false,
+    }
+}
+
+fn has_balance(slots: &[Slot], balance: i64) -> bool {
+    for slot in slots {
+        if slot.attribute != 1 || slot.value != Value::Int(balance) {
+            return false;
+        }
+    }
+    slots.len() == 1
+}
+
+/// Whether the edge leads from the client to this new object.
+fn is_edge(edge: Option<&MadeEdge>, target: u32) -> bool {
+    match edge {
+        Some(edge) => {
+            edge.source == End::Old(0) && edge.reference == 0 && edge.target == End::New(target)
+        }
+        None => false,
+    }
+}
+
+fn deletes(plan: &Plan) -> bool {
+    plan.drop_objects.as_slice() == &[3] && plan.drop_edges.as_slice() == &[2, 0, 1]
+}
+
+fn writes(plan: &Plan) -> bool {
+    let writes = &plan.writes;
+    writes.len() == 2 && is_write(writes.get(0), 1, 8) && is_write(writes.get(1), 2, 10)
+}
+
+fn creates_accounts(plan: &Plan) -> bool {
+    let made = &plan.make_objects;
+    made.len() == 3
+        && is_account(made.get(0), 3)
+        && is_account(made.get(1), 5)
+        && is_account(made.get(2), 5)
+}
+
+fn creates_edges(plan: &Plan) -> bool {
+    let made = &plan.make_edges;
+    made.len() == 3 && is_edge(made.get(0), 0) && is_edge(made.get(1), 1) && is_edge(made.get(2), 2)
 }
 
 #[test]
-fn plans_what_a_rule_makes(rt: HostRuntime) -> Result<(), Fail> {
-    let alloc = rt.alloc();
-    let Some(meta) = model_of(alloc, MODEL) else {
-        return Err(Fail::new("the metamodel is sound"));
-    };
-    let rule = opens_two(alloc)?;
-    let found = found_at(alloc, 7)?;
-    if !rule.only_adds() {
-        return Err(Fail::new("the rule only adds"));
-    }
-    let plan = plan(alloc, &meta, &rule, &found)?;
-    assert_eq!(rt;
-        plan.drop_objects.len() + plan.drop_edges.len() + plan.writes.len(),
-        0
-    );
-    assert_eq!(rt; plan.make_objects.len(), 2);
-    for object in plan.make_objects.as_slice() {
-        assert_eq!(rt; object.class, 1);
-        assert_eq!(rt; object.slots.len(), 1);
-        for slot in object.slots.as_slice() {
-            assert!(rt; slot.attribute == 1 && slot.value == Value::Int(5));
+fn plans_what_a_rule_and_its_copies_do(rt: HostRuntime) -> Result<(), AllocError> {
+    let is_planned = match planned(rt.alloc())? {
+        Some(plan) => {
+            deletes(&plan) && writes(&plan) && creates_accounts(&plan) && creates_edges(&plan)
         }
-    }
-    assert!(rt; is_edge(plan.make_edges.get(0), End::New(1)));
-    assert!(rt; is_edge(plan.make_edges.get(1), End::New(0)));
-    assert_eq!(rt; plan.make_edges.len(), 2);
-    Ok(())
-}
-
-/// Whether the edge leads from object 7 to this end.
-fn is_edge(edge: Option<&MadeEdge>, target: End) -> bool {
-    match edge {
-        Some(edge) => edge.source == End::Old(7) && edge.reference == 0 && edge.target == target,
         None => false,
-    }
+    };
+    assert!(rt; is_planned);
+    Ok(())
 }

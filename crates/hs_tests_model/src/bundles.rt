@@ -30,8 +30,8 @@ fn what_is_read_is_kept(rt: HostRuntime) -> Result<(), AllocError> {
         r#"{"meta":{"classes":[{"name":"A","attributes":[{"name":"n","type":"EInt","default":4}]}]},"graph":[{"name":"a","class":"A"},{"name":"b","class":"A","attrs":{"n":5}}],"rules":"rule r() { }","sessions":[]}"#;
     let is_kept = match read_bundle(rt.alloc(), text.as_bytes()) {
         Ok(bundle) => {
-            bundle.graph.graph.objects.len() == 2
-                && bundle.graph.meta.plain().classes.len() == 1
+            bundle.graph.objects().len() == 2
+                && bundle.graph.meta().plain().classes.len() == 1
                 && bundle.rules.as_str() == "rule r() { }"
                 && bundle.sessions.is_some()
                 && bundle.journal.is_none()
@@ -106,7 +106,7 @@ fn has_problems(alloc: Global, text: &str, lines: &[&str]) -> Result<bool, Alloc
         expected.push_str(line)?;
         expected.push('\n')?;
     }
-    let text = problems_text(alloc, &bundle.graph.meta, &bundle.graph.graph)?;
+    let text = problems_text(alloc, bundle.graph.meta(), &bundle.graph)?;
     Ok(text.as_str() == expected.as_str())
 }
 

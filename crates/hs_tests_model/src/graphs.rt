@@ -6,7 +6,7 @@ use hs_graph::{
     GraphFault, GraphFaultKind, GraphPlace, RawAttr, RawObject, RawRef, RawValue, Scalar, TextRef,
     ValueRef, build,
 };
-use hs_types::Graph;
+use hs_types::{Graph, Slot};
 use std::alloc::{AllocError, Global};
 use std::test::Fail;
 
@@ -373,17 +373,35 @@ fn edges_stand_in_order(rt: HostRuntime) -> Result<(), Fail> {
     Ok(())
 }
 
+/// The slots of the first object.
+fn slots_of_first(graph: &Graph) -> &[Slot] {
+    match graph.objects.get(0) {
+        Some(object) => object.slots.as_slice(),
+        None => &[],
+    }
+}
+
+/// Whether the first object has this value for the attribute.
+fn has_value(graph: &Graph, attribute: u16, value: &Value) -> bool {
+    for slot in slots_of_first(graph) {
+        if slot.attribute == attribute && slot.value == *value {
+            return true;
+        }
+    }
+    false
+}
+
 #[test]
 fn slots_have_written_values_and_defaults(rt: HostRuntime) -> Result<(), Fail> {
     let alloc = rt.alloc();
     match answer_to(alloc, "a:Account balance=7 total=-3") {
         Ok(graph) => {
             let text = Value::Text(Text::from_str(alloc, "?")?);
-            assert!(rt; graph.slot(0, 0) == Some(&text));
-            assert!(rt; graph.slot(0, 3) == Some(&Value::Int(7)));
-            assert!(rt; graph.slot(0, 4) == Some(&Value::Int(-3)));
-            assert!(rt; graph.slot(0, 5) == Some(&Value::Bool(false)));
-            assert!(rt; graph.slot(0, 1).is_none());
+            assert!(rt; has_value(&graph, 0, &text));
+            assert!(rt; has_value(&graph, 3, &Value::Int(7)));
+            assert!(rt; has_value(&graph, 4, &Value::Int(-3)));
+            assert!(rt; has_value(&graph, 5, &Value::Bool(false)));
+            assert!(rt; slots_of_first(&graph).len() == 4);
         }
         Err(_) => assert!(rt; false),
     }

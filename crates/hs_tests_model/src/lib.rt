@@ -4,12 +4,14 @@
 
 mod model;
 
-pub use model::model_of;
+pub use model::{graph_of, model_of};
 
 #[cfg(test)]
 mod bundles;
 #[cfg(test)]
 mod graphs;
+#[cfg(test)]
+mod hosts;
 #[cfg(test)]
 mod inputs;
 #[cfg(test)]

@@ -1,7 +1,8 @@
-//! Metamodels of JSON texts, for tests.
+//! Metamodels and graphs of JSON texts, for tests.
 
+use hs_json::read_bundle;
 use hs_json_model::read_meta;
-use hs_types::Meta;
+use hs_types::{ListGraph, Meta};
 use serde_json::Value;
 use std::alloc::Global;
 
@@ -16,4 +17,9 @@ pub const BANK: &str =
 pub fn model_of(alloc: Global, text: &str) -> Option<Meta> {
     let value = Value::from_str(alloc, text).ok()?;
     read_meta(alloc, &value).ok()
+}
+
+/// The graph of the bundle that the text is, or none where it is refused.
+pub fn graph_of(alloc: Global, text: &str) -> Option<ListGraph> {
+    Some(read_bundle(alloc, text.as_bytes()).ok()?.graph)
 }

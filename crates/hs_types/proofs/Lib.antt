@@ -8,3 +8,12 @@ pub mod Conforming
 pub mod Edges
 pub mod SplitSupport
 pub mod Forms
+pub mod SlotKinds
+pub mod AfterStep
+pub mod HashNames
+pub mod TypedStep
+pub mod ClassFeatures
+pub mod Keyed
+pub mod Writes
+pub mod Sorted
+pub mod Installed

@@ -31,7 +31,7 @@ use Rattle.hs_types.specs.Metamodel.{class_at, feature_at}
 use Rattle.hs_types.specs.Plan.{Plan, plan_of}
 use Rattle.hs_types.specs.Rules.{Rules}
 use Rattle.hs_types.specs.Step.{new_objects, step}
-use Rattle.hs_types.specs.TypedGraph.{object_at, object_named, value_at}
+use Rattle.hs_types.specs.TypedGraph.{object_numbered, object_named, value_at}
 use Rattle.hs_types.specs.ValidMatch.{IsValid, NoneIsValid}
 
 -- The match that an entry names, where each of its names is an object's.
@@ -57,7 +57,7 @@ old_values g plan = filter_map (λ write. value_at g write.object write.slot) pl
 
 -- The objects that the plan drops.
 abbrev pub dropped_objects : Graph → Plan → List Object
-dropped_objects g plan = filter_map (object_at g) plan.drop_objects
+dropped_objects g plan = filter_map (object_numbered g) plan.drop_objects
 
 -- The values of slots, by the names of their attributes.
 abbrev pub named_values : Metamodel → List Slot → List NamedValue

@@ -22,3 +22,5 @@ pub mod Outs
 pub mod Limits
 pub mod Additions
 pub mod Names
+pub mod Host
+pub mod Writing

@@ -11,7 +11,7 @@ use Rattle.hs_types.specs.declared.rule.PatternNode.{PatternNode}
 use Rattle.hs_types.specs.declared.rule.Shape.{Shape}
 use Rattle.hs_expr.specs.Lists.{Differ}
 use Rattle.hs_types.specs.Pattern.{left_nodes, left_edges, no_shape}
-use Rattle.hs_types.specs.TypedGraph.{edge_at, IsOf}
+use Rattle.hs_types.specs.TypedGraph.{edge_numbered, IsOf}
 
 -- The images of left nodes are a list, in written order. That of node n follows those of the left
 -- nodes before it.
@@ -25,7 +25,7 @@ edge_image edges images n = slice_index images (length (left_edges (take n edges
 -- Edge n of the graph has the pattern edge's reference, and joins the images of its ends.
 abbrev pub IsImage : Graph → (ℕ → ℕ) → PatternEdge → ℕ → Type 0
 IsImage g at edge n =
-    edge_at g n ≡ Some (record {
+    edge_numbered g n ≡ Some (record {
       number = n;
       source = at edge.source;
       reference = edge.reference;

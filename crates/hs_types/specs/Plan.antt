@@ -12,7 +12,6 @@ use Rattle.hs_types.specs.declared.meta.Metamodel.{Metamodel}
 use Rattle.hs_types.specs.declared.plan.End.{End}
 use Rattle.hs_types.specs.declared.plan.End.TheVariants.{Old, New}
 use Rattle.hs_types.specs.declared.plan.MadeEdge.{MadeEdge}
-use Rattle.hs_types.specs.declared.plan.MadeObject.{MadeObject}
 use Rattle.hs_types.specs.declared.plan.Write.{Write}
 use Rattle.hs_types.specs.declared.request.Args.{Args}
 use Rattle.hs_types.specs.declared.rule.PatternEdge.{PatternEdge}
@@ -28,7 +27,12 @@ use Rattle.hs_expr.specs.Lists.{has, Differ, EachPair}
 use Rattle.hs_types.specs.Metamodel.{Conforms, attributes_of, default_of, features_of, fits, target_of}
 use Rattle.hs_types.specs.Pattern.{is_make, made_nodes, made_edges, node_is}
 use Rattle.hs_types.specs.PlainMatch.{image, kernel_of}
-use Rattle.hs_types.specs.TypedGraph.{AreSlotsOf, object_at, edge_at, value_at, Stands}
+use Rattle.hs_types.specs.TypedGraph.{AreSlotsOf, object_numbered, edge_numbered, value_at, Stands}
+
+-- An object that is made, with all its slots.
+pub record MadeObject : Type 0 where
+  pub class : ℕ
+  pub slots : List Slot
 
 -- Which objects and edges go, which slots get which values, and which objects and edges are made.
 pub record Plan : Type 0 where
@@ -37,6 +41,15 @@ pub record Plan : Type 0 where
   pub writes : List Write
   pub make_objects : List MadeObject
   pub make_edges : List MadeEdge
+
+abbrev pub no_plan : Plan
+no_plan = record {
+  drop_objects = [];
+  drop_edges = [];
+  writes = [];
+  make_objects = [];
+  make_edges = [];
+}
 
 -- The values that the `set`s write into slots of preserved nodes, in written order.
 abbrev pub writes_of : Env → List PatternNode → List ℕ → List SetItem → List Write
@@ -154,9 +167,9 @@ SlotFits m Container v = ⊥
 -- is left without an end, and nothing is written to what goes; what it writes and makes is such as
 -- a typed graph has.
 pub record Fits (m : Metamodel) (g : Graph) (plan : Plan) : Type 0 where
-  pub objects_stand : All (λ n. IsSome (object_at g n)) plan.drop_objects
+  pub objects_stand : All (λ n. IsSome (object_numbered g n)) plan.drop_objects
   pub objects_differ : Differ plan.drop_objects
-  pub edges_stand : All (λ n. IsSome (edge_at g n)) plan.drop_edges
+  pub edges_stand : All (λ n. IsSome (edge_numbered g n)) plan.drop_edges
   pub edges_differ : Differ plan.drop_edges
   pub none_dangle : NoneDangle plan.drop_objects plan.drop_edges g
   pub slots_stand : All (λ write. IsSome (value_at g write.object write.slot)

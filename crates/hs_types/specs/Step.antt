@@ -9,8 +9,7 @@ use Rattle.hs_types.specs.declared.graph.Slot.{Slot}
 use Rattle.hs_types.specs.declared.plan.End.{End}
 use Rattle.hs_types.specs.declared.plan.End.TheVariants.{Old, New}
 use Rattle.hs_types.specs.declared.plan.MadeEdge.{MadeEdge}
-use Rattle.hs_types.specs.declared.plan.MadeObject.{MadeObject}
-use Rattle.hs_types.specs.Plan.{Plan}
+use Rattle.hs_types.specs.Plan.{MadeObject, Plan}
 use Rattle.hs_types.specs.declared.plan.Write.{Write}
 use Rattle.hs_types.specs.declared.rule.SlotKind.{SlotKind}
 use Rattle.hs_types.specs.declared.rule.SlotKind.TheVariants.{Attribute}

@@ -15,11 +15,11 @@ use Rattle.hs_expr.specs.Lists.{has, same_text, Differ, EachPair, Rise}
 use Rattle.hs_types.specs.Metamodel.{Conforms, IsConcrete, attributes_of, features_of, fits, target_of}
 
 -- The object and the edge of a number.
-abbrev pub object_at : Graph → ℕ → Option Object
-object_at g n = find (λ object. eqb object.number n) g.objects
+abbrev pub object_numbered : Graph → ℕ → Option Object
+object_numbered g n = find (λ object. eqb object.number n) g.objects
 
-abbrev pub edge_at : Graph → ℕ → Option Edge
-edge_at g n = find (λ edge. eqb edge.number n) g.edges
+abbrev pub edge_numbered : Graph → ℕ → Option Edge
+edge_numbered g n = find (λ edge. eqb edge.number n) g.edges
 
 -- The number of the object of this name, and the name of the object at this number.
 abbrev pub object_named : Graph → List ℕ → Option ℕ
@@ -27,7 +27,7 @@ object_named g name =
     option_map (λ object. object.number) (find (λ object. same_text object.name name) g.objects)
 
 abbrev pub name_at : Graph → ℕ → Option (List ℕ)
-name_at g n = option_map (λ object. object.name) (object_at g n)
+name_at g n = option_map (λ object. object.name) (object_numbered g n)
 
 -- The value for an attribute among these slots.
 abbrev pub value_in : ℕ → List Slot → Option Value
@@ -35,13 +35,14 @@ value_in a slots = option_map (λ slot. slot.value) (find (λ slot. eqb slot.att
 
 -- The value that the object at n has in a slot. Only slots of attributes have values.
 abbrev pub value_at : Graph → ℕ → SlotKind → Option Value
-value_at g n (Attribute a) = option_and_then (λ object. value_in a object.slots) (object_at g n)
+value_at g n (Attribute a) =
+    option_and_then (λ object. value_in a object.slots) (object_numbered g n)
 value_at g n (Link r) = None
 value_at g n Container = None
 
 -- n is an object, and the fact holds of its class.
 abbrev pub Stands : Graph → (ℕ → Type 0) → ℕ → Type 0
-Stands g P n = IsSomeAnd (object_at g n) (λ object. P object.class)
+Stands g P n = IsSomeAnd (object_numbered g n) (λ object. P object.class)
 
 -- n is an object whose class conforms to this one.
 abbrev pub IsOf : Metamodel → Graph → ℕ → ℕ → Type 0

@@ -2,9 +2,8 @@
 
 ghost use Rattle.std.proofs.Common.{rules};
 
-use crate::{ClassNo, FeatureNo, Meta};
+use crate::{ClassNo, FeatureNo};
 use hs_expr::{Exact, List, Plain, Text, Value};
-use std::sync::Arc;
 
 /// The number of an object: given when it came, and never given again.
 pub type ObjectNo = u32;
@@ -49,13 +48,6 @@ pub struct Edge {
     pub source: ObjectNo,
     pub reference: FeatureNo,
     pub target: ObjectNo,
-}
-
-/// A typed graph with its metamodel, kept as plain lists.
-#[derive(Debug, Drop)]
-pub struct ListGraph {
-    pub meta: Arc<Meta>,
-    pub graph: Graph,
 }
 
 impl Plain for Slot {

@@ -2,9 +2,13 @@
 //! plans, requests and journal entries.
 //!
 //! The types are structs and enums with public fields, so contracts and definitions see records of
-//! lists, numbers and texts; `Meta` keeps its table of conformance to itself. Things are named by
-//! numbers: an object or an edge of a graph by the number that it was given when it was made
-//! ([`ObjectNo`], [`EdgeNo`]), everything else by its index in the list that holds it.
+//! lists, numbers and texts; `Meta` keeps its table of conformance to itself, `ListGraph` its room.
+//! Things are named by numbers: an object or an edge of a graph by the number that it was given
+//! when it was made ([`ObjectNo`], [`EdgeNo`]), everything else by its index in the list that holds
+//! it.
+//!
+//! Rules are applied to a [`Host`], a typed graph that carries plans out; a [`Finder`] searches for
+//! matches in one.
 #![tactic(auto)]
 
 mod additions;
@@ -13,21 +17,30 @@ mod data_type;
 mod entry;
 mod features;
 mod graph;
+mod host;
 pub mod limits;
+mod list_graph;
+mod list_host;
 mod lookup;
 mod matching;
 mod meta;
+mod name_room;
 mod pattern;
 mod plan;
 mod reachability;
 mod request;
 mod rule;
 mod rule_set;
+mod sorted_numbers;
+mod stepping;
 mod unit;
+mod writing;
 
 pub use conformance::Meta;
 pub use entry::{Cause, Entry, ExtensionNames, Gone, MatchNames, NamedValue, Outcome, Tried, What};
-pub use graph::{Edge, EdgeNo, Graph, ListGraph, Object, ObjectNo, Slot};
+pub use graph::{Edge, EdgeNo, Graph, Object, ObjectNo, Slot};
+pub use host::{EdgeView, Finder, Host};
+pub use list_graph::ListGraph;
 pub use matching::{Extension, Match};
 pub use meta::{Class, ClassNo, DataType, Feature, FeatureKind, FeatureNo, Metamodel};
 pub use pattern::{

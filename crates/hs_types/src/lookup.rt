@@ -1,58 +1,46 @@
-//! Look-ups in a graph.
+//! Look-ups in lists of objects and edges.
 
-ghost use Rattle.std.specs.Prelude.{◌≡◌, option_copied};
+ghost use Rattle.std.specs.Prelude.{◌≡◌, ◌||◌, eqb, slice_get, option_copied};
+ghost use Rattle.std.specs.List.{find, filter};
 ghost use Rattle.std.specs.Option.{option_map};
-ghost use Rattle.hs_types.specs.TypedGraph as spec;
-ghost use Rattle.hs_types.specs.declared.rule.SlotKind.TheVariants as kind;
+ghost use Rattle.hs_expr.specs.Lists.{same_text};
+ghost use Rattle.hs_types.specs.TypedGraph.{value_in};
 
-use crate::{ClassNo, FeatureNo, Graph, Object, ObjectNo, Slot};
+use crate::{Edge, FeatureNo, Object, ObjectNo, Slot};
 use hs_expr::Value;
 
-impl Graph {
-    /// The object of this number.
-    pub fn object_at(&self, number: ObjectNo) -> Option<&Object>
-        ensures { option_copied result ≡ spec.object_at self.now number }
-    {
-        self.objects.iter().find(|object| object.number == number)
-    }
+/// The object of this number.
+pub(crate) fn object_numbered(objects: &[Object], number: ObjectNo) -> Option<&Object>
+    ensures { option_copied result ≡ find (λ object. eqb object.number number) objects.now }
+{
+    objects.iter().find(|object| object.number == number)
+}
 
-    /// The class of the object of this number.
-    pub fn class_of(&self, number: ObjectNo) -> Option<ClassNo>
-        ensures { result ≡ option_map (λ object. object.class) (spec.object_at self.now number) }
-    {
-        Some(self.object_at(number)?.class)
-    }
-
-    /// The number of the object of this name.
-    pub fn named(&self, name: &str) -> Option<ObjectNo>
-        ensures { result ≡ spec.object_named self.now name.now }
-    {
-        let found = self
-            .objects
-            .iter()
-            .find(|object| object.name.as_str() == name)?;
-        Some(found.number)
-    }
-
-    /// The name of the object of this number.
-    pub fn name_of(&self, number: ObjectNo) -> Option<&str>
-        ensures { option_copied result ≡ spec.name_at self.now number }
-    {
-        Some(self.object_at(number)?.name.as_str())
-    }
-
-    /// The value that the object of this number has for the attribute.
-    pub fn slot(&self, number: ObjectNo, attribute: FeatureNo) -> Option<&Value>
-        ensures { option_copied result ≡ spec.value_at self.now number (kind.Attribute attribute) }
-    {
-        value_in(self.object_at(number)?.slots.as_slice(), attribute)
-    }
+/// The number of the object of this name.
+pub(crate) fn number_named(objects: &[Object], name: &str) -> Option<ObjectNo>
+    ensures { result ≡ option_map (λ object. object.number)
+        (find (λ object. same_text object.name name.now) objects.now) }
+{
+    let found = objects.iter().find(|object| object.name.as_str() == name)?;
+    Some(found.number)
 }
 
 /// The value for the attribute among these slots.
-fn value_in(slots: &[Slot], attribute: FeatureNo) -> Option<&Value>
-    ensures { option_copied result ≡ spec.value_in attribute slots.now }
+pub(crate) fn value_in(slots: &[Slot], attribute: FeatureNo) -> Option<&Value>
+    ensures { option_copied result ≡ value_in attribute slots.now }
 {
     let found = slots.iter().find(|slot| slot.attribute == attribute)?;
     Some(&found.value)
+}
+
+/// The edge at this place among those at the object.
+pub(crate) fn edge_beside(edges: &[Edge], object: ObjectNo, place: usize) -> Option<Edge>
+    ensures { result
+        ≡ slice_get (filter (λ edge. eqb edge.source object || eqb edge.target object) edges.now)
+        place }
+{
+    let mut beside = edges
+        .iter()
+        .filter(|edge| edge.source == object || edge.target == object);
+    beside.nth(place).copied()
 }

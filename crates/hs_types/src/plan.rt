@@ -1,7 +1,13 @@
 //! Plans: what a rule application does.
 
-use crate::{ClassNo, EdgeNo, FeatureNo, ObjectNo, Slot, SlotKind};
+ghost use Rattle.std.specs.Prelude.{◌≡◌, ◌<◌, ◌^◌, IfOk};
+ghost use Rattle.hs_types.specs.Plan.{no_plan};
+ghost use Rattle.hs_types.specs.TypedGraph.{hash_name};
+
+use crate::name_room::NameRoom;
+use crate::{ClassNo, EdgeNo, FeatureNo, Object, ObjectNo, Slot, SlotKind};
 use hs_expr::{List, Value};
+use std::alloc::{AllocError, Global};
 use std::marker::Model;
 
 /// An end of an edge that a plan makes: an object of the graph, or one that the plan makes, by its
@@ -20,11 +26,64 @@ pub struct Write {
     pub value: Value,
 }
 
-/// An object that a plan makes, with all its slots.
+/// An object that a plan makes, with all its slots, and room for its name. Contracts see class and
+/// slots.
 #[derive(Debug, Drop)]
 pub struct MadeObject {
-    pub class: ClassNo,
-    pub slots: List<Slot>,
+    class: ClassNo,
+    slots: List<Slot>,
+    name: NameRoom,
+}
+
+impl Model for MadeObject {
+    ghost use Rattle.hs_types.specs.Plan as spec;
+
+    ghost Value = { spec.MadeObject };
+
+    ghost view = { λ made. record { class = made.class; slots = made.slots } };
+}
+
+impl MadeObject {
+    /// The object with these slots. It takes the room for its name.
+    pub fn new(alloc: Global, class: ClassNo, slots: List<Slot>) -> Result<MadeObject, AllocError>
+        ensures class { IfOk result (λ made. made.class ≡ class) }
+        ensures slots { IfOk result (λ made. made.slots ≡ slots) }
+    {
+        Ok(MadeObject {
+            class,
+            slots,
+            name: NameRoom::new(alloc)?,
+        })
+    }
+
+    pub fn class(&self) -> ClassNo
+        ensures { result ≡ self.now.class }
+    {
+        self.class
+    }
+
+    pub fn slots(&self) -> &[Slot]
+        ensures { result.now ≡ self.now.slots }
+    {
+        self.slots.as_slice()
+    }
+
+    /// The object of the graph with this number and the name `#k`, without taking memory.
+    pub(crate) fn numbered(self, number: ObjectNo, k: u64) -> Object
+        requires { k < 10 ^ 10 }
+        ensures number { result.number ≡ number }
+        ensures name { result.name ≡ hash_name k }
+        ensures class { result.class ≡ self.class }
+        ensures slots { result.slots ≡ self.slots }
+    {
+        let MadeObject { class, slots, name } = self;
+        Object {
+            number,
+            name: name.named(k),
+            class,
+            slots,
+        }
+    }
 }
 
 /// An edge that a plan makes.
@@ -59,4 +118,19 @@ impl Model for Plan {
       make_objects = plan.make_objects;
       make_edges = plan.make_edges;
     } };
+}
+
+impl Plan {
+    /// The plan that does nothing.
+    pub fn new(alloc: Global) -> Plan
+        ensures { result ≡ no_plan }
+    {
+        Plan {
+            drop_objects: List::new(alloc),
+            drop_edges: List::new(alloc),
+            writes: List::new(alloc),
+            make_objects: List::new(alloc),
+            make_edges: List::new(alloc),
+        }
+    }
 }

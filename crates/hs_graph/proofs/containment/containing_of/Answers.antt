@@ -7,4 +7,4 @@ use Rattle.hs_graph.proofs.containment.containing_of.Goals as goal
 pub returns : goal.returns
 returns c = λ n.
     c.in_ok-index.ensures n ∙ ap (filter (λ e. eqb e.target n)) c.in_ok-edges.ensures
-    ∙ filter-turned (λ e. eqb e.target n) (λ e. spec.is_containment c.args.meta.now e.reference) c.args.graph.now.edges
+    ∙ filter-turned (λ e. eqb e.target n) (λ e. spec.is_containment c.args.meta.now e.reference) c.args.graph.now.graph.edges

@@ -1,5 +1,4 @@
 use Rattle.std.proofs.Common.{◌≡◌, Result, Ok, Err, IfOk, ap, subst, ◌∙◌}
-use Rattle.std.specs.Arc.{arc_value}
 use Rattle.hs_expr.specs.declared.failure.Failure.{Failure}
 use Rattle.hs_expr.specs.declared.failure.Failure.TheVariants as failed
 use Rattle.hs_expr.specs.Steps.{GivesWhere}
@@ -20,16 +19,23 @@ holds P (Ok x) told gives = gives.1
 holds P (Err failure) told gives = tt
 
 pub returns-clause-right : goal.returns-clause-right
-returns-clause-right c = rw (c.fault_as.ensures BadRule (λ fault made h. h)) (ok_as _ BadRule c.check.result (right _ c.check.result _ c.check.ensures.set))
+returns-clause-right c =
+    let set = subst (λ (m : Metamodel). GivesWhere (IsMeant m c.args.syntax.now.definitions) c.check.result (verdict (faults_of m c.args.syntax.now.definitions))) c.meta.ensures.value c.check.ensures.set in
+    rw (c.fault_as.ensures BadRule (λ fault made h. h)) (ok_as _ BadRule c.check.result (right _ c.check.result _ set))
 
 pub returns-clause-meant : goal.returns-clause-meant
-returns-clause-meant c = rw (c.fault_as.ensures BadRule (λ fault made h. h)) (ok_as _ BadRule c.check.result (holds _ c.check.result _ c.check.ensures.set))
+returns-clause-meant c =
+    let set = subst (λ (m : Metamodel). GivesWhere (IsMeant m c.args.syntax.now.definitions) c.check.result (verdict (faults_of m c.args.syntax.now.definitions))) c.meta.ensures.value c.check.ensures.set in
+    rw (c.fault_as.ensures BadRule (λ fault made h. h)) (ok_as _ BadRule c.check.result (holds _ c.check.result _ set))
 
 pub returns-clause-model : goal.returns-clause-model
-returns-clause-model c = rw (c.fault_as.ensures BadRule (λ fault made h. h)) (ok_as _ BadRule c.check.result c.check.ensures.meta)
+returns-clause-model c =
+    rw (c.fault_as.ensures BadRule (λ fault made h. h), ← c.meta.ensures.value) (ok_as _ BadRule c.check.result c.check.ensures.meta)
 
 pub returns-clause-refused : goal.returns-clause-refused
-returns-clause-refused c = λ bytes held same answer is_syntax. rw (c.fault_as.ensures BadRule (λ fault made h. h))
+returns-clause-refused c = λ bytes held same answer is_syntax.
+    let set = subst (λ (m : Metamodel). GivesWhere (IsMeant m c.args.syntax.now.definitions) c.check.result (verdict (faults_of m c.args.syntax.now.definitions))) c.meta.ensures.value c.check.ensures.set in
+    rw (c.fault_as.ensures BadRule (λ fault made h. h))
     (told_as bytes BadRule c.check.result (λ fault is.
-    let told = subst (λ a. GivesWhere (IsMeant (arc_value c.args.meta.now) c.args.syntax.now.definitions) a (verdict (faults_of (arc_value c.args.meta.now) c.args.syntax.now.definitions))) is c.check.ensures.set in
+    let told = subst (λ a. GivesWhere (IsMeant c.args.graph.now.meta c.args.syntax.now.definitions) a (verdict (faults_of c.args.graph.now.meta c.args.syntax.now.definitions))) is set in
     (held, c.args.syntax.now, answer, is_syntax, ap (λ (m : Metamodel). verdict (faults_of m c.args.syntax.now.definitions)) same ∙ told)))

@@ -15,7 +15,7 @@ text_of-requires c =
 
 pub returns : goal.returns
 returns c =
-    let whole = graph_data c.args.meta.now c.args.graph.now in
+    let whole = graph_data c.args.meta.now c.args.graph.now.graph in
     let before : c.add_graph.new.out.before ≡ string_bytes c.args.text = c.in_ok-add_graph.ensures.before ∙ c.new-out.ensures.before ∙ ap (λ v. v.items) c.into_bytes.ensures.value in
     let tokens : c.add_graph.new.out.tokens ≡ json_tokens (outline whole) = c.in_ok-add_graph.ensures.ok ∙ ap (λ ts. ts ++ json_tokens (outline whole)) c.new-out.ensures.tokens in
     c.text_of.ensures ∙ ap (λ (bs : List ℕ). bs ++ print c.add_graph.new.out.tokens) before

@@ -12,7 +12,7 @@ use Rattle.hs_types.specs.Copies.{AreCopies, Copy, IsCopy, SparesCopy}
 use Rattle.hs_expr.specs.Lists.{Apart}
 use Rattle.hs_types.specs.Metamodel.{itself}
 use Rattle.hs_types.specs.PlainMatch.{Extends}
-use Rattle.hs_types.specs.TypedGraph.{edge_at}
+use Rattle.hs_types.specs.TypedGraph.{edge_numbered}
 use Rattle.hs_laws.specs.Bank.{arrow, copy, kernel, link, model, node, one_account, purge, purge_args, three_with}
 use Rattle.hs_expr.proofs.Lists.{All-one, All-two, below_differs}
 use Rattle.hs_laws.proofs.examples.copies.Goals as goal
@@ -83,7 +83,7 @@ one_of_two (n ∷ []) (e ∷ []) i = elim (cases_Bool (eqb 0 e)) [
   ]
 ]
   where
-    at : edge_at linked e ≡ Some (record { number = e; source = n; reference = 0; target = 2 })
+    at : edge_numbered linked e ≡ Some (record { number = e; source = n; reference = 0; target = 2 })
     at = i.0.edges_fit.0
 
     same : (j e n : ℕ) → j ≡ e → j ≡ n → copy j j ≡ copy n e

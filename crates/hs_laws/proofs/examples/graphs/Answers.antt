@@ -8,7 +8,7 @@ use Rattle.hs_types.specs.TypedGraph.{hash_name}
 use Rattle.hs_laws.specs.Bank.{client, link, model}
 use Rattle.hs_laws.specs.Strange.{leaves_a_name_out}
 use Rattle.hs_expr.proofs.Lists.{below_differs}
-use Rattle.hs_laws.proofs.Names.{hash_name-same, no_leading_zero}
+use Rattle.hs_types.proofs.HashNames.{hash_name-same, no_leading_zero}
 use Rattle.hs_laws.proofs.examples.graphs.Goals as goal
 
 pub returns-clause-no_abstract_object : goal.returns-clause-no_abstract_object

@@ -1,4 +1,4 @@
-use Rattle.hs_laws.proofs.Lookups.{edge-old, edge_at-kept, value_at-kept}
+use Rattle.hs_types.proofs.AfterStep.{edge-old, edge_numbered-kept, value_at-kept}
 use Rattle.hs_laws.proofs.Stepped.{edge-gone, object-from, object-gone, object-stays}
 use Rattle.hs_laws.proofs.steps.steps_change_what_they_name.Goals as goal
 
@@ -9,7 +9,7 @@ pub returns-clause-slots_stay : goal.returns-clause-slots_stay
 returns-clause-slots_stay c = value_at-kept
 
 pub returns-clause-edges_stay : goal.returns-clause-edges_stay
-returns-clause-edges_stay c = edge_at-kept
+returns-clause-edges_stay c = edge_numbered-kept
 
 pub returns-clause-objects_go : goal.returns-clause-objects_go
 returns-clause-objects_go c = object-gone

@@ -9,9 +9,9 @@ use Rattle.hs_match.proofs.candidates.next_edge.Goals.{else-from-via-then-from+e
 
 pub returns-then-may_join : goal.returns-then-may_join
 returns-then-may_join c =
-    let edge : Edge = slice_index_or c.as_slice-edges.result.now c.loop-i.i (record { number = 0; source = 0; reference = 0; target = 0 }) in
-    let at : slice_get c.as_slice-edges.result.now c.loop-i.i ≡ Some edge = slice_get-get_or c.as_slice-edges.result.now c.loop-i.i _ c.loop-i-test.true in
-    let there : slice_get c.args.graph.now.edges c.loop-i.i ≡ Some edge = subst (λ (xs : List Edge). slice_get xs c.loop-i.i ≡ Some edge) c.as_slice-edges.ensures at in
+    let edge : Edge = slice_index_or c.edges-edges.result.now c.loop-i.i (record { number = 0; source = 0; reference = 0; target = 0 }) in
+    let at : slice_get c.edges-edges.result.now c.loop-i.i ≡ Some edge = slice_get-get_or c.edges-edges.result.now c.loop-i.i _ c.loop-i-test.true in
+    let there : slice_get c.args.graph.now.graph.edges c.loop-i.i ≡ Some edge = subst (λ (xs : List Edge). slice_get xs c.loop-i.i ≡ Some edge) c.edges-edges.ensures at in
     let late : c.args.from ≤ edge.number = rw c.from.ensures at c.if-from.true in
     least_here (λ (edge : Edge). edge.number) (MayJoin c.args.joining.source c.args.joining.reference c.args.joining.target (c.args.base.now ++ c.args.taken.now)) _ _ _ c.loop-i.i edge c.requires
     c.loop-i.invariant there late
@@ -20,10 +20,10 @@ returns-then-may_join c =
 
 pub loop-i-preserved : goal.loop-i-preserved
 loop-i-preserved c =
-    let edge : Edge = slice_index_or c.as_slice-edges.result.now c.loop-i.i (record { number = 0; source = 0; reference = 0; target = 0 }) in
-    let at : slice_get c.as_slice-edges.result.now c.loop-i.i ≡ Some edge = slice_get-get_or c.as_slice-edges.result.now c.loop-i.i _ c.loop-i-test.true in
-    let there : slice_get c.args.graph.now.edges c.loop-i.i ≡ Some edge = subst (λ (xs : List Edge). slice_get xs c.loop-i.i ≡ Some edge) c.as_slice-edges.ensures at in
-    skip_one (λ (edge : Edge). edge.number) (MayJoin c.args.joining.source c.args.joining.reference c.args.joining.target (c.args.base.now ++ c.args.taken.now)) c.args.graph.now.edges c.args.from c.loop-i.i edge
+    let edge : Edge = slice_index_or c.edges-edges.result.now c.loop-i.i (record { number = 0; source = 0; reference = 0; target = 0 }) in
+    let at : slice_get c.edges-edges.result.now c.loop-i.i ≡ Some edge = slice_get-get_or c.edges-edges.result.now c.loop-i.i _ c.loop-i-test.true in
+    let there : slice_get c.args.graph.now.graph.edges c.loop-i.i ≡ Some edge = subst (λ (xs : List Edge). slice_get xs c.loop-i.i ≡ Some edge) c.edges-edges.ensures at in
+    skip_one (λ (edge : Edge). edge.number) (MayJoin c.args.joining.source c.args.joining.reference c.args.joining.target (c.args.base.now ++ c.args.taken.now)) c.args.graph.now.graph.edges c.args.from c.loop-i.i edge
     c.loop-i.invariant there
     (λ late passes. elim c.else-from.branch [
       | else-from-via-then-from+else-may_join w ↦ let t = w.if-may_join.ensures.1 passes in cc
@@ -33,4 +33,4 @@ loop-i-preserved c =
 pub returns : goal.returns
 returns c =
     none_left (λ (edge : Edge). edge.number) (MayJoin c.args.joining.source c.args.joining.reference c.args.joining.target (c.args.base.now ++ c.args.taken.now)) _ _ _ c.loop-i.i c.loop-i.invariant
-    (rw c.as_slice-edges.ensures at c.loop-i-test.false) (edge_stands _ _ _ _ _)
+    (rw c.edges-edges.ensures at c.loop-i-test.false) (edge_stands _ _ _ _ _)

@@ -12,7 +12,7 @@ returns-then-source-here c = λ y rest n found.
     let begins : image nodes (base ++ (front ++ y ∷ rest)) edge.source ≡ c.image-source.result =
     image_before nodes base front (y ∷ rest) edge.source (rw c.left_nodes_before-source.ensures at c.if-source-here.true) ∙ sym c.image-source.ensures in
     let ends : image nodes (base ++ (front ++ y ∷ rest)) edge.target ≡ y = image_here nodes base front y rest edge.target (sym c.left_nodes_before-target.ensures ∙ c.if-target-here.true) in
-    linked_from c.args.self.now.graph.now (image nodes (base ++ (front ++ y ∷ rest))) edge n c.image-source.result y found begins ends
+    linked_from c.args.self.now.graph.now.graph (image nodes (base ++ (front ++ y ∷ rest))) edge n c.image-source.result y found begins ends
 
 pub returns-then-target-here-2 : goal.returns-then-target-here-2
 returns-then-target-here-2 c = λ y rest n found.
@@ -23,4 +23,4 @@ returns-then-target-here-2 c = λ y rest n found.
     let ends : image nodes (base ++ (front ++ y ∷ rest)) edge.target ≡ c.image-target.result =
     image_before nodes base front (y ∷ rest) edge.target (rw c.left_nodes_before-target.ensures at c.if-target-here-2.true) ∙ sym c.image-target.ensures in
     let begins : image nodes (base ++ (front ++ y ∷ rest)) edge.source ≡ y = image_here nodes base front y rest edge.source (sym c.left_nodes_before-source.ensures ∙ c.if-source-here-2.true) in
-    linked_into c.args.self.now.graph.now (image nodes (base ++ (front ++ y ∷ rest))) edge n c.image-target.result y found ends begins
+    linked_into c.args.self.now.graph.now.graph (image nodes (base ++ (front ++ y ∷ rest))) edge n c.image-target.result y found ends begins
