@@ -15,6 +15,8 @@ mod parsing;
 #[cfg(test)]
 mod printing;
 #[cfg(test)]
+mod reasons;
+#[cfg(test)]
 mod rule_faults;
 #[cfg(test)]
 mod tokens;

@@ -1,0 +1,11 @@
+pub mod LeftSide
+pub mod Contexts
+pub mod Maps
+pub mod Reasons
+pub mod Rows
+pub mod Overlaps
+pub mod SubShapes
+pub mod Completions
+pub mod Tests
+pub mod Inverses
+pub mod Weights
