@@ -7,6 +7,7 @@ ghost use Rattle.hs_types.specs.PlainMatch.{image, kernel_of};
 ghost use Rattle.hs_apply.specs.Blocks as spec;
 ghost use Rattle.hs_apply.specs.Blocks.{block_images, block_nodes};
 
+use crate::counting::added;
 use hs_types::{
     EdgeNo, End, Extension, Match, Multi, ObjectNo, PatternNode, Rule, SetItem, Shape, image_of,
 };
@@ -156,10 +157,8 @@ fn end_of(
         (plan.end_of (base.now ++ nodes.now) (base_images.now ++ images.now) node)) }
 {
     if is_made(base, nodes, node) {
-        match made_before(base, nodes, node).checked_add(count) {
-            Some(place) => Ok(End::New(place)),
-            None => Err(AllocError),
-        }
+        let place = added(made_before(base, nodes, node), count)?;
+        Ok(End::New(place))
     } else {
         Ok(End::Old(image_of(base, nodes, base_images, images, node)))
     }

@@ -6,6 +6,7 @@
 #![tactic(auto)]
 
 mod block;
+mod counting;
 mod dropping;
 pub mod laws;
 mod making;

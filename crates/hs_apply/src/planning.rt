@@ -1,23 +1,23 @@
 //! What a rule does at a match, block by block.
 
-ghost use Rattle.std.specs.Prelude.{◌≡◌, ◌≤◌, ◌+◌, [], IfOk, OnOk, length, map, slice_get};
+ghost use Rattle.std.specs.Prelude.{◌≡◌, ◌≤◌, [], IfOk, OnOk, map, slice_get};
 ghost use Rattle.std.specs.List.{All};
 ghost use Rattle.std.specs.Option.{unwrap_or};
 ghost use Rattle.hs_expr.specs.declared.expr.TheConstants.{MAX_NESTING};
 ghost use Rattle.hs_expr.specs.Evaluation.{nesting};
 ghost use Rattle.hs_types.specs.Copies.{copies_of};
 ghost use Rattle.hs_types.specs.Limits.{IsSmallRule};
-ghost use Rattle.hs_types.specs.Pattern.{made_nodes};
 ghost use Rattle.hs_types.specs.Plan.{plan_of};
 ghost use Rattle.hs_types.specs.PlainMatch.{kernel_of};
 ghost use Rattle.hs_apply.specs.Blocks as spec;
 
 use crate::block::Block;
+use crate::counting::more;
 use crate::dropping::{add_dropped_edges, add_dropped_nodes};
 use crate::making::{add_edges, add_objects};
 use crate::writes::add_writes;
 use hs_eval::MatchEnv;
-use hs_types::{Args, Extension, Host, Match, Multi, PatternNode, Plan, Rule};
+use hs_types::{Args, Extension, Host, Match, Multi, Plan, Rule};
 use std::alloc::{AllocError, Global};
 
 /// What the rule does at the match with these arguments: the kernel's part first, then copy by
@@ -130,31 +130,6 @@ fn add_copies<H: Host>(
         made = more(made, multi.shape.nodes.as_slice())?;
     }
     Ok(made)
-}
-
-/// The count and the nodes that are made. It is out of memory where 32 bits don't count them.
-fn more(count: u32, nodes: &[PatternNode]) -> Result<u32, AllocError>
-    ensures { IfOk result (λ more. more ≡ count + length (made_nodes nodes.now)) }
-{
-    match u32::try_from(count_made(nodes)) {
-        Ok(made) => added(count, made),
-        Err(_) => Err(AllocError),
-    }
-}
-
-fn count_made(nodes: &[PatternNode]) -> usize
-    ensures { result ≡ length (made_nodes nodes.now) }
-{
-    nodes.iter().filter(|node| node.mark.is_make()).count()
-}
-
-fn added(count: u32, made: u32) -> Result<u32, AllocError>
-    ensures { IfOk result (λ sum. sum ≡ count + made) }
-{
-    match count.checked_add(made) {
-        Some(sum) => Ok(sum),
-        None => Err(AllocError),
-    }
 }
 
 /// The copies of the multi-rule at this index. Where the match has none there, there are no copies.

@@ -116,7 +116,8 @@ fn is_edge(edge: Option<&MadeEdge>, target: u32) -> bool {
 }
 
 fn deletes(plan: &Plan) -> bool {
-    plan.drop_objects.as_slice() == &[3] && plan.drop_edges.as_slice() == &[2, 0, 1]
+    plan.drop_objects.as_slice() == [3].as_slice()
+        && plan.drop_edges.as_slice() == [2, 0, 1].as_slice()
 }
 
 fn writes(plan: &Plan) -> bool {
