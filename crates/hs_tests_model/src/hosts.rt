@@ -2,7 +2,7 @@
 
 use crate::graph_of;
 use hs_expr::Value;
-use hs_types::{Host, ListGraph, Plan};
+use hs_types::{EdgeView, Host, ListGraph, Plan};
 use std::alloc::{AllocError, Global};
 
 /// Two clients, of which the first has both accounts and knows itself.
@@ -13,16 +13,21 @@ fn sample(alloc: Global) -> Option<ListGraph> {
     graph_of(alloc, BUNDLE)
 }
 
-/// The numbers of the edges at an object.
+fn is_numbered(edge: Option<EdgeView>, number: u32) -> bool {
+    match edge {
+        Some(edge) => edge.number == number,
+        None => false,
+    }
+}
+
+/// Whether the edges at the object have these numbers.
 fn is_at<H: Host>(host: &H, object: u32, numbers: &[u32]) -> bool {
-    let mut place = 0;
-    for number in numbers {
-        match host.edge_at(object, place) {
-            Some(edge) if edge.number == *number => place += 1,
-            _ => return false,
+    for (place, number) in numbers.iter().enumerate() {
+        if !is_numbered(host.edge_at(object, place), *number) {
+            return false;
         }
     }
-    host.edge_at(object, place).is_none()
+    host.edge_at(object, numbers.len()).is_none()
 }
 
 fn looks_up<H: Host>(host: &H) -> bool {
