@@ -13,7 +13,9 @@ use Rattle.hs_overlap.specs.declared.pair.Pair.{Pair}
 use Rattle.hs_overlap.specs.declared.pair.Pair.TheVariants.{Node, Edge, Slot}
 use Rattle.hs_overlap.specs.LeftSide.{IsLeftNode, IsLeftSlot}
 use Rattle.hs_overlap.specs.Overlaps.{CanOccur, HasClosedOverlap, IsClosed, NodesMeet, SlotsMeet}
-use Rattle.hs_overlap.specs.Reasons.{CanMeet, HasFirst, IsListed, IsPairBefore, IsReason, IsSpan, MeetExactly}
+use Rattle.hs_overlap.specs.Reasons.{CanMeet, HasDeleted, HasFirst, IsListed, IsPairBefore, IsReason, IsSpan, MeetExactly}
+use Rattle.hs_overlap.specs.Rows.{IsConflictAtom, IsExtra, IsReasonPart, IsRow, ReachesExtra}
+use Rattle.hs_overlap.specs.declared.table.Need.TheVariants.{Require}
 use Rattle.hs_overlap.specs.Weights.{HasCount, IsWeight}
 use Rattle.hs_overlap.proofs.Pairs.{Contains-cons_cases, Contains-here, Contains-later}
 
@@ -142,8 +144,8 @@ pub balance_reason : MeetExactly model add.shape add.shape both → IsReason mod
 balance_reason meet = record { listed = listed; deleted = record { pair = Slot 0 0; held = has_slot; deleted = the_written }; meet = meet }
 
 -- The pair of nodes alone deletes nothing.
-pub no_balance : IsReason model add.shape add.shape (Node 0 0 ∷ []) → ⊥
-no_balance h = kept h.deleted.pair h.deleted.held h.deleted.deleted
+nothing_deleted : HasDeleted add.shape (Node 0 0 ∷ []) → ⊥
+nothing_deleted h = kept h.pair h.held h.deleted
   where
     kept : (q : Pair) → Contains (Node 0 0 ∷ []) q → IsDeleted add.shape (of_first q) → ⊥
     kept q c d = elim (Contains-cons_cases (Node 0 0) q [] c) [
@@ -153,6 +155,15 @@ no_balance h = kept h.deleted.pair h.deleted.held h.deleted.deleted
       where
         not_dropped : IsDroppedNode add.shape 0 → ⊥
         not_dropped n = let same : account_node ≡ n.node = same_Some account_node n.node n.left.at in let e : account_node.mark ≡ Drop = ap (λ (z : PatternNode). z.mark) same ∙ n.dropped in cc
+
+pub no_balance : IsReason model add.shape add.shape (Node 0 0 ∷ []) → ⊥
+no_balance h = nothing_deleted h.deleted
+
+pub no_part : IsReasonPart model add.shape add.shape (Node 0 0 ∷ []) → ⊥
+no_part h = nothing_deleted h.deleted
+
+pub no_atom : IsConflictAtom model add.shape add.shape (Node 0 0 ∷ []) → ⊥
+no_atom h = no_part h.one
 
 -- What a span holds is in it.
 pub no_account : IsReason model add.shape add.shape (Slot 0 0 ∷ []) → IsSpan add.shape (Slot 0 0 ∷ []) → ⊥
@@ -204,3 +215,13 @@ add_weight = record {
   edge_counts = record { each = refl; exact = λ i k at. absurd cc };
   product = refl;
 }
+
+-- The one slot has to be paired with an element of the extra part, which has none.
+pub no_row : IsRow model Require add.shape add.shape 1 0 both → ⊥
+no_row h = away h.one.1
+  where
+    away : ReachesExtra add.shape 1 0 both → ⊥
+    away r = elim (one_of_both r.pair r.held) [
+      | inl e ↦ let x : IsExtra 1 0 (Node 0 0) = subst (IsExtra 1 0) e r.extra in absurd (omega arith)
+      | inr e ↦ subst (IsExtra 1 0) e r.extra
+    ]

@@ -4,6 +4,8 @@ ghost use Rattle.std.specs.Prelude.{[], ◌∷◌};
 ghost use Rattle.hs_laws.specs.Bank.{add, drop_client, model, open_account, touch};
 ghost use Rattle.hs_overlap.specs.declared.pair.Pair.TheVariants.{Node, Slot};
 ghost use Rattle.hs_overlap.specs.Reasons.{IsReason};
+ghost use Rattle.hs_overlap.specs.Rows.{IsConflictAtom, IsReasonPart, IsRow};
+ghost use Rattle.hs_overlap.specs.declared.table.Need.TheVariants.{Require};
 ghost use Rattle.hs_overlap.specs.Weights.{IsWeight};
 
 use crate::laws::{glue, reasons_are_spans, what_reasons_pair};
@@ -36,6 +38,18 @@ pub fn deletions_tried()
     glue();
     what_reasons_pair();
 }
+
+/// The account alone is neither a part of a reason of two additions nor an atom: none of it is
+/// deleted.
+pub fn parts_tried()
+    ensures no_part { IsReasonPart model add.shape add.shape (Node 0 0 ∷ []) → ⊥ }
+    ensures no_atom { IsConflictAtom model add.shape add.shape (Node 0 0 ∷ []) → ⊥ }
+{}
+
+/// The reason of two additions is no row of what a require part needs: it pairs nothing of one.
+pub fn rows_tried()
+    ensures { IsRow model Require add.shape add.shape 1 0 (Node 0 0 ∷ Slot 0 0 ∷ []) → ⊥ }
+{}
 
 /// The one account of the rule that adds to a balance has one possible partner, or none.
 pub fn weights_tried()
