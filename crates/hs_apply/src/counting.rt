@@ -1,5 +1,4 @@
-//! Counts of the objects that copies make. It is out of memory where 32 bits don't count them: no
-//! memory has so many.
+//! Counts of the objects that copies make. It is out of memory where 32 bits don't count them.
 
 ghost use Rattle.std.specs.Prelude.{◌≡◌, ◌+◌, IfOk, length};
 ghost use Rattle.hs_types.specs.Pattern.{made_nodes};

@@ -104,8 +104,8 @@ fn add_block<H: Host>(
     Ok(())
 }
 
-/// Adds what the copies of one multi-rule do, where those before them make `count` objects, and
-/// tells how many they make together.
+/// Adds what the copies of one multi-rule do, where those before them make `count` objects. The
+/// answer is how many objects all of them make.
 fn add_copies<H: Host>(
     alloc: Global,
     host: &H,

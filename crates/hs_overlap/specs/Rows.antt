@@ -32,7 +32,8 @@ pub record IsReasonPart (m : Metamodel) (r p : Shape) (part : List Pair) : Type 
 abbrev pub IsConflictAtom : Metamodel → Shape → Shape → List Pair → Type 0
 IsConflictAtom m r p = IsMinimal (IsReasonPart m r p)
 
--- The second element is one of the extra part, which follows so many nodes and edges.
+-- The second element is one of the extra part, whose nodes and edges are numbered from these
+-- numbers on.
 abbrev pub IsExtra : ℕ → ℕ → Pair → Type 0
 IsExtra nodes edges (Node i j) = nodes ≤ j
 IsExtra nodes edges (Edge x y) = edges ≤ y

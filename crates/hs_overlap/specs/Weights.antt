@@ -45,7 +45,7 @@ pub record IsWeight (m : Metamodel) (r p : Shape) (weight : ℕ) : Type 0 where
 abbrev pub capped : ℕ → ℕ
 capped weight = min weight (MAX_WEIGHT + 1)
 
--- The product is that of so many partner counts, up to the cap.
+-- The product for the first n elements, up to the cap.
 pub record IsCappedProduct (CanPair : ℕ → ℕ → Type 0) (n w : ℕ) : Type 0 where
   pub counts : List ℕ
   pub exact : ArePartnerCounts CanPair n counts

@@ -24,7 +24,7 @@ use hs_types::{Mark, Meta, Shape};
 
 /// Whether the span is a conflict reason of the shape and the pattern, after Born, Lambers, Strüber
 /// and Taentzer (ICGT 2017). A list that isn't in order, has a pair twice or names an element that
-/// isn't there is none. It takes no memory. Where the pattern drops a node, n kept edges at its
+/// isn't there is no reason. It takes no memory. Where the pattern drops a node, n kept edges at its
 /// partner can lead to about n! tries.
 pub fn is_closed(meta: &Meta, first: &Shape, second: &Pattern, span: &[Pair]) -> bool
     requires metamodel { IsMeta meta.now }

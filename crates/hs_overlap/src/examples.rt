@@ -12,8 +12,8 @@ use crate::laws::{glue, reasons_are_spans, what_reasons_pair};
 use hs_laws::metamodels;
 
 /// Two applications of the rule that adds to a balance are in conflict where their accounts are
-/// one: the account with its balance is a reason. The account without its balance is none, nor is
-/// the list out of order, nor one that has a pair twice, nor one of an account that isn't there.
+/// one: the account with its balance is a reason. Not a reason are the account without its balance,
+/// the list out of order, one that has a pair twice, and one of an account that isn't there.
 pub fn additions_tried()
     ensures balance { IsReason model add.shape add.shape (Node 0 0 ∷ Slot 0 0 ∷ []) }
     ensures no_balance { IsReason model add.shape add.shape (Node 0 0 ∷ []) → ⊥ }

@@ -13,8 +13,8 @@ use hs_types::{
 use std::alloc::{AllocError, Global};
 
 /// A client with three accounts, whose balance is 5 where none is given. `share` closes one of
-/// them, opens one with a balance that is given, and for each other account, which gets that much more,
-/// one that takes its place at the client.
+/// them, opens one with a balance that is given, and for each other account, which gets that much
+/// more, one that takes its place at the client.
 const BUNDLE: &str =
     r##"{"meta":{"classes":[{"name":"Client","references":[{"name":"accounts","target":"Account","upper":-1}]},{"name":"Account","attributes":[{"name":"balance","type":"EInt","default":5}]}]},"graph":[{"name":"ann","class":"Client","refs":{"accounts":["a","b","x"]}},{"name":"a","class":"Account"},{"name":"b","class":"Account","attrs":{"balance":7}},{"name":"x","class":"Account"}],"rules":"rule share(in more: int) { preserve node c: Client; delete node x: Account; delete edge c -> x: accounts; create node n: Account; create edge c -> n: accounts; set n.balance = more; multi { preserve node a: Account; delete edge c -> a: accounts; create node m: Account; create edge c -> m: accounts; set a.balance = a.balance + more; } }"}"##;
 

@@ -3,6 +3,7 @@ use Rattle.std.specs.Prelude.{ℕ, ◌+◌, ◌≤◌, List, length, ◌||◌, e
 use Rattle.std.specs.List.{filter}
 use Rattle.hs_types.specs.declared.graph.Edge.{Edge}
 use Rattle.hs_types.specs.declared.graph.Graph.{Graph}
+use Rattle.hs_types.specs.declared.limits.TheConstants.{MAX_NAME_NUMBER, MAX_NUMBERS}
 use Rattle.hs_types.specs.declared.meta.Metamodel.{Metamodel}
 use Rattle.hs_types.specs.Plan.{Plan, Fits}
 
@@ -16,7 +17,7 @@ pub record RoomyGraph : Type 0 where
 -- The next name's number is not far ahead of the next object's: an opening graph may have the name
 -- `#3000000000`, and each step draws as many names as objects.
 abbrev pub HasNearNames : Graph → Type 0
-HasNearNames g = g.next_name ≤ g.next_object + 3000000001
+HasNearNames g = g.next_name ≤ g.next_object + (MAX_NAME_NUMBER + 1)
 
 -- The edges at the object n, in the order of their numbers. A loop is there once.
 abbrev pub edges_at : Graph → ℕ → List Edge
@@ -25,5 +26,5 @@ edges_at g n = filter (λ edge. eqb edge.source n || eqb edge.target n) g.edges
 -- The plan can be carried out: it fits the graph, and no more numbers are drawn than there are.
 pub record CanInstall (m : Metamodel) (g : Graph) (plan : Plan) : Type 0 where
   pub fits : Fits m g plan
-  pub objects_drawn : g.next_object + length plan.make_objects ≤ 1000000000
-  pub edges_drawn : g.next_edge + length plan.make_edges ≤ 1000000000
+  pub objects_drawn : g.next_object + length plan.make_objects ≤ MAX_NUMBERS
+  pub edges_drawn : g.next_edge + length plan.make_edges ≤ MAX_NUMBERS

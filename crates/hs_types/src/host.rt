@@ -6,6 +6,7 @@ ghost use Rattle.hs_types.specs.declared.graph.Graph.{Graph};
 ghost use Rattle.hs_types.specs.declared.meta.Metamodel.{Metamodel};
 ghost use Rattle.hs_types.specs.declared.rule.SlotKind.TheVariants as kind;
 ghost use Rattle.hs_types.specs.Host.{CanInstall, HasNearNames, edges_at};
+ghost use Rattle.hs_types.specs.Limits.{IsSmallRule};
 ghost use Rattle.hs_types.specs.RuleForm.{IsRule};
 ghost use Rattle.hs_types.specs.Step.{step};
 ghost use Rattle.hs_types.specs.TypedGraph as spec;
@@ -119,9 +120,10 @@ pub trait Host: Drop {
 /// A search for matches in hosts of one kind.
 pub trait Finder<H: Host> {
     /// The least valid match of the rule with these arguments, or none exactly where no match is
-    /// valid. It asks for a rule without multi-rules.
+    /// valid. It asks for a rule that `check` lets through, without multi-rules.
     fn first(&self, host: &H, rule: &Rule, args: &Args) -> Result<Option<Match>, AllocError>
         requires form { IsRule (H.metamodel host.now) rule.now }
+        requires small { IsSmallRule rule.now }
         requires single { rule.now.multis ≡ [] }
         ensures { IfOk result
             (IsFirst (H.metamodel host.now) (H.graph host.now) rule.now args.now) };

@@ -31,7 +31,8 @@ pub struct ListGraph {
 impl Model for ListGraph {
     ghost use Rattle.std.specs.Prelude.{◌+◌, ◌≤◌, vec_len, vec_capacity};
     ghost use Rattle.std.specs.Arc.{arc_value};
-    ghost use Rattle.hs_types.specs.Host.{HasNearNames, RoomyGraph};
+    ghost use Rattle.hs_types.specs.declared.limits.TheConstants.{MAX_NAME_NUMBER};
+    ghost use Rattle.hs_types.specs.Host.{RoomyGraph};
     ghost use Rattle.hs_types.specs.TypedGraph.{IsTyped};
 
     ghost Value = { RoomyGraph };
@@ -56,7 +57,7 @@ impl Model for ListGraph {
       next_edge = host.next_edge;
       next_name = host.next_name;
     })
-        × (host.next_name ≤ host.next_object + 3000000001)
+        × (host.next_name ≤ host.next_object + (MAX_NAME_NUMBER + 1))
         × (vec_len host.objects + host.spare_objects ≤ vec_capacity host.objects)
         × (vec_len host.edges + host.spare_edges ≤ vec_capacity host.edges) };
 }
@@ -171,8 +172,8 @@ impl ListGraph {
     }
 
     /// Carries the plan out: new objects and edges get the next numbers, new objects the next
-    /// names. After `Ok` the plan is spent; after an error all is as it was. Where the spare numbers cover
-    /// the plan it is `Ok`.
+    /// names. After `Ok` the plan is spent; after an error all is as it was. Where the spare
+    /// numbers cover the plan it is `Ok`.
     pub fn install(&mut self, plan: &mut Plan) -> Result<(), AllocError>
         requires { CanInstall self.old.meta self.old.graph plan.old }
         ensures meta { self.new.meta ≡ self.old.meta }
@@ -229,7 +230,8 @@ fn copied<T: Plain>(items: &Vec<T>) -> Result<Vec<T>, AllocError>
     items.clone()
 }
 
-/// Takes room for so many items more than were spared already, and tells how many are spared then.
+/// Takes room for more items, beside those that have room already. The answer is how many have
+/// room then.
 fn more_room<T>(items: &mut Vec<T>, spare: usize, more: usize) -> Result<usize, AllocError>
     ensures ok { IfOk result (λ spared.
         (spared ≡ spare + more) × (vec_len items.new + spared ≤ vec_capacity items.new)) }
